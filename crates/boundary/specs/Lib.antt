@@ -1,0 +1,2 @@
+-- What crosses the C boundary.
+pub mod Boundary

@@ -1,0 +1,49 @@
+// What crosses the C boundary: slices as a pointer and a length, structs by value, no enum.
+ghost use mathlib.Core.Path.{_≡_};
+ghost use Rattle.sheet.specs.Answers.{sheetRead, worthsRead};
+ghost use Rattle.boundary.specs.Boundary.{fieldAnswer};
+use sheet::Field;
+use sheet::Read;
+use sheet::Worths;
+
+// One field's answer as numbers: 0 and the field's number, or 6 and the faulty offset; and the next column.
+#[repr(C)]
+pub struct FieldAnswer {
+    pub next: usize,
+    pub number: u8,
+    pub value: usize,
+}
+
+#[no_mangle]
+pub extern "C" fn hokewhuni_read_field(sheet: &[u8], at: usize) -> FieldAnswer
+    ensures { λ r. ⌜ r ≡ fieldAnswer (now (sheet .entry)) at ⌝ }
+{
+    let r = sheet::read_field(sheet, at);
+    let f = r.field;
+    match f {
+        Field::Number(v) => FieldAnswer {
+            next: r.next,
+            number: 0,
+            value: v as usize,
+        },
+        Field::Faulty(c) => FieldAnswer {
+            next: r.next,
+            number: 6,
+            value: c,
+        },
+    }
+}
+
+#[no_mangle]
+pub extern "C" fn hokewhuni_read_sheet(sheet: &[u8]) -> Read
+    ensures { λ r. ⌜ r ≡ sheetRead (now (sheet .entry)) ⌝ }
+{
+    sheet::read_sheet(sheet)
+}
+
+#[no_mangle]
+pub extern "C" fn hokewhuni_read_worths(sheet: &[u8]) -> Worths
+    ensures { λ r. ⌜ r ≡ worthsRead (now (sheet .entry)) ⌝ }
+{
+    sheet::read_worths(sheet)
+}

@@ -1,0 +1,172 @@
+-- The questions in their order: what each answer says of the sheet's fault. Offers one law for each way out of `ask_each`, `ask_lines` and `ask_head`.
+-- Assumes nothing.
+use mathlib.Core.Path.{_≡_, refl, sym, ap, _∙_}
+use mathlib.Core.Bool.{Bool, true, false}
+use mathlib.Core.List.{List}
+use Prim.Native.Nat.{ℕ, zero, suc, _+_, _*_, _/_, _%_, _^_, _<_, _≤_}
+use native.Mathlib.Omega.{arith}
+use lib.ListN.{length, getD}
+use borrow.Author.Tests.{le-leb, lt-leb, le-ltb, eq-eqb, ne-eqb}
+use Rattle.theory.proofs.Tests.{and-means, leb-means}
+use Rattle.sheet.specs.declared.Field.{Field}
+use Rattle.sheet.specs.declared.Field.the-variants.{Number, Faulty}
+use Rattle.sheet.specs.declared.FieldRead.{FieldRead}
+use Rattle.sheet.specs.declared.Fault.{Fault}
+use Rattle.sheet.specs.declared.Head.{Head}
+use Rattle.sheet.specs.Fields.{fieldAt, fieldRead, good, numberOf}
+use Rattle.sheet.specs.Sheets.{lineLength, offset, Sheet, numberAt}
+use Rattle.sheet.specs.Questions.{fault, askEach, headGood, between, wrong, firstWrong, linesFault, sheetFault}
+use Rattle.sheet.specs.Answers.{HeadRead, HeadAsked}
+
+-- a question put to each place
+abbrev pub askedAlone : ℕ → ℕ → ℕ → Fault
+askedAlone q n x = askEach q n x (λ _. fault 0 0)
+
+-- the code divides by the number of places of a line
+pub place-asked : (q n z k : ℕ) (b : List ℕ) (w : Sheet) (t : Bool) → z ≡ 2 ^ n → t ≡ wrong q b w (k / z) (k % z) → t ≡ wrong q b w (k / 2 ^ n) (k % 2 ^ n)
+place-asked q n z k b w t e h = rw e at h
+
+pub each-found : (q n z k at x : ℕ) → z ≡ 2 ^ n → at ≡ offset n (k / z) (k % z) → suc k ≡ x → fault q at ≡ askedAlone q n x
+each-found q n z k at x e h f = ap (fault q) h ∙ ap (λ y. fault q (offset n (k / y) (k % y))) e ∙ ap (askedAlone q n) f
+
+pub each-none : (q n x : ℕ) → 0 ≡ x → fault 0 0 ≡ askedAlone q n x
+each-none q n x f = ap (askedAlone q n) f
+
+-- what its answer says
+refused-by : (q n x : ℕ) (f : Fault) (rest : Unit {0} → Fault) → f ≡ askedAlone (suc q) n x → (f .number ≡ 0 → ⊥) → f ≡ askEach (suc q) n x rest
+refused-by q n zero f rest e h = absurd (h (ap (λ (g : Fault). g .number) e))
+refused-by q n (suc k) f rest e h = e
+
+passed-by : (q n x : ℕ) (f : Fault) → f ≡ askedAlone (suc q) n x → f .number ≡ 0 → x ≡ 0
+passed-by q n zero f e h = refl
+passed-by q n (suc k) f e h = absurd (let z : f .number ≡ suc q = ap (λ (g : Fault). g .number) e in omega arith)
+
+module _ (b : List ℕ) (w : Sheet) (f : Fault) (e : f ≡ askedAlone 6 (w .lots) (firstWrong 6 b w)) where
+  pub lines-malformed : (f .number ≡ 0 → ⊥) → f ≡ linesFault b w
+  unfolding linesFault
+  lines-malformed h = refused-by 5 (w .lots) (firstWrong 6 b w) f _ e h
+
+  module _ (h : f .number ≡ 0) (g : Fault) (d : g ≡ askedAlone 7 (w .lots) (firstWrong 7 b w)) where
+    pub lines-large : (g .number ≡ 0 → ⊥) → g ≡ linesFault b w
+    unfolding linesFault
+    lines-large k = rw (passed-by 5 (w .lots) (firstWrong 6 b w) f e h) (refused-by 6 (w .lots) (firstWrong 7 b w) g _ d k)
+
+    pub lines-last : g .number ≡ 0 → (a : Fault) → a ≡ askedAlone 8 (w .lots) (firstWrong 8 b w) → a ≡ linesFault b w
+    unfolding linesFault
+    lines-last k a c = rw (passed-by 5 (w .lots) (firstWrong 6 b w) f e h, passed-by 6 (w .lots) (firstWrong 7 b w) g d k) c
+
+-- question 2: r and s are the fields that are read, x the byte after them
+module _ (b : List ℕ) (long : 13 ≤ length b) (r s : FieldRead) (er : r ≡ fieldRead b 0) (es : s ≡ fieldRead b (r .next)) where
+  first-next : r .next ≡ 6
+  first-next = ap (λ (x : FieldRead). x .next) er ∙ rw (le-ltb (length b) (0 + 6) (omega arith))
+
+  second-read : s ≡ fieldRead b 6
+  second-read = es ∙ ap (fieldRead b) first-next
+
+  second-next : s .next ≡ 12
+  second-next = ap (λ (x : FieldRead). x .next) second-read ∙ rw (le-ltb (length b) (6 + 6) (omega arith))
+
+  first-field : (f : Field) → r .field ≡ f → fieldAt 0 b ≡ f
+  first-field f h = sym (ap (λ (x : FieldRead). x .field) er) ∙ h
+
+  second-field : (f : Field) → s .field ≡ f → fieldAt 6 b ≡ f
+  second-field f h = sym (ap (λ (x : FieldRead). x .field) second-read) ∙ h
+
+  head-refused : (a : Head) → a .number ≡ 2 → headGood b ≡ false → HeadRead b a
+  head-refused a e h = record { refused = λ _. (e, h); passed = λ z. absurd (omega arith) }
+
+  pub first-faulty : (a : Head) → a .number ≡ 2 → (at : ℕ) → r .field ≡ Faulty at → HeadRead b a
+  first-faulty a e at h = head-refused a e (rw (ap good (first-field (Faulty at) h)))
+
+  module _ (m : ℕ) (hm : r .field ≡ Number m) where
+    pub second-faulty : (a : Head) → a .number ≡ 2 → (at : ℕ) → s .field ≡ Faulty at → HeadRead b a
+    second-faulty a e at h = head-refused a e (rw (ap good (first-field (Number m) hm), ap good (second-field (Faulty at) h)))
+
+    module _ (n : ℕ) (hn : s .field ≡ Number n) (x : ℕ) (ex : x ≡ getD b (s .next) 0) where
+      byte-is : x ≡ getD b 12 0
+      byte-is = ex ∙ ap (λ k. getD b k 0) second-next
+
+      pub end-faulty : (a : Head) → a .number ≡ 2 → (x ≡ 10 → ⊥) → HeadRead b a
+      end-faulty a e h =
+          head-refused a e (rw (ap good (first-field (Number m) hm), ap good (second-field (Number n) hn), ne-eqb (getD b 12 0) 10 (λ q. h (byte-is ∙ q))))
+
+      pub head-good : x ≡ 10 → HeadRead b (record { number = 0; buyers = m; lots = n })
+      head-good h =
+          record {
+            refused = λ z. absurd (z refl);
+            passed = λ _. (
+              rw (ap good (first-field (Number m) hm), ap good (second-field (Number n) hn), eq-eqb (getD b 12 0) 10 (sym byte-is ∙ h)),
+              sym (ap numberOf (first-field (Number m) hm)),
+              sym (ap numberOf (second-field (Number n) hn)),
+            );
+          }
+
+pub between-most : (k m : ℕ) → between k m ≡ true → m ≤ k
+between-most k m e = and-means (leb-means 1 m) (leb-means m k) .0 e .1
+
+-- questions 1 to 5; r is the answer where one gets a no, and h the first line as it was read
+module _ (b : List ℕ) where
+  turned-down : (r : Head) (k : ℕ) → r .number ≡ suc k → sheetFault b ≡ fault (suc k) 0 → HeadAsked b r
+  turned-down r k e h = record { refused = λ _. h ∙ ap (λ n. fault n 0) (sym e); passed = λ z. absurd (omega arith) }
+
+  pub short-sheet : (r : Head) → r .number ≡ 1 → length b < 13 → HeadAsked b r
+  unfolding sheetFault
+  short-sheet r e h = turned-down r 0 e (rw (lt-leb 13 (length b) h))
+
+  module _ (long : 13 ≤ length b) (h : Head) (asked : HeadRead b h) where
+    pub bad-head : (h .number ≡ 0 → ⊥) → HeadAsked b h
+    unfolding sheetFault
+    bad-head n = turned-down h 1 (asked .refused n .0) (rw (le-leb 13 (length b) long, asked .refused n .1))
+
+    module _ (z : h .number ≡ 0) where
+      buyers-between : (t : Bool) → between 6 (h .buyers) ≡ t → between 6 (numberAt 0 b) ≡ t
+      buyers-between t q = sym (ap (between 6) (asked .passed z .1)) ∙ q
+
+      lots-between : (t : Bool) → between 4 (h .lots) ≡ t → between 4 (numberAt 6 b) ≡ t
+      lots-between t q = sym (ap (between 4) (asked .passed z .2)) ∙ q
+
+      pub bad-buyers : (r : Head) → r .number ≡ 3 → between 6 (h .buyers) ≡ false → HeadAsked b r
+      unfolding sheetFault
+      bad-buyers r e q = turned-down r 2 e (rw (le-leb 13 (length b) long, asked .passed z .0, buyers-between false q))
+
+      module _ (q3 : between 6 (h .buyers) ≡ true) where
+        pub bad-lots : (r : Head) → r .number ≡ 4 → between 4 (h .lots) ≡ false → HeadAsked b r
+        unfolding sheetFault
+        bad-lots r e q = turned-down r 3 e (rw (le-leb 13 (length b) long, asked .passed z .0, buyers-between true q3, lots-between false q))
+
+        module _ (q4 : between 4 (h .lots) ≡ true) (l : ℕ) (el : l ≡ lineLength (h .lots)) where
+          length-is : 13 + h .buyers * l ≡ 13 + numberAt 0 b * lineLength (numberAt 6 b)
+          length-is = rw (el, asked .passed z .1, asked .passed z .2)
+
+          pub bad-length : (r : Head) → r .number ≡ 5 → (length b ≡ 13 + h .buyers * l → ⊥) → HeadAsked b r
+          unfolding sheetFault
+          bad-length r e q =
+              turned-down r 4 e
+              (rw (
+                le-leb 13 (length b) long,
+                asked .passed z .0,
+                buyers-between true q3,
+                lots-between true q4,
+                ne-eqb (length b) (13 + numberAt 0 b * lineLength (numberAt 6 b)) (λ y. q (y ∙ sym length-is)),
+              ))
+
+          pub head-passes : length b ≡ 13 + h .buyers * l → HeadAsked b h
+          unfolding sheetFault
+          head-passes q =
+              record {
+                refused = λ n. absurd (n z);
+                passed = λ _. record {
+                  buyers = asked .passed z .1;
+                  lots = asked .passed z .2;
+                  few-buyers = between-most 6 (h .buyers) q3;
+                  few-lots = between-most 4 (h .lots) q4;
+                  rest =
+                      rw (
+                        le-leb 13 (length b) long,
+                        asked .passed z .0,
+                        buyers-between true q3,
+                        lots-between true q4,
+                        eq-eqb (length b) (13 + numberAt 0 b * lineLength (numberAt 6 b)) (q ∙ length-is),
+                      );
+                };
+              }

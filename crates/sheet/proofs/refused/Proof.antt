@@ -1,0 +1,12 @@
+-- `sheet::refused` meets its contract.
+use mathlib.Core.Path.{refl}
+use Rattle.sheet.specs.Answers.{refusal}
+use Rattle.sheet.proofs.refused.Statement.{statement}
+use Rattle.sheet.proofs.refused.Tie as tie
+
+returns : tie.Need-returns
+unfolding refusal
+returns c = refl
+
+pub refused-spec : {M : Type 1} → statement M
+refused-spec = tie.close (tie.spec returns)

@@ -1,0 +1,78 @@
+-- The questions as propositions, as document 01 words them, to read a sheet's fault by: `Question` k, what is wrong at an offset with 6, 7 and 8, and
+-- what is known of a sheet that is accepted.
+use mathlib.Core.Path.{_≡_}
+use mathlib.Core.Logic.{_≢_, _⊎_}
+use mathlib.Core.Bool.{true}
+use mathlib.Core.List.{List, [], _∷_}
+use Prim.Native.Nat.{ℕ, suc, _+_, _-_, _*_, _^_, _≤_, _<_}
+use lib.ListN.{length, take, drop, getD}
+use Rattle.sheet.specs.declared.Field.the-variants.{Number, Faulty}
+use Rattle.sheet.specs.Fields.{fieldAt, columns}
+use Rattle.sheet.specs.Sheets.{lineLength, offset, bit, Sheet, sheetOf, worth}
+
+abbrev pub GoodField : List ℕ → ℕ → Type 0
+GoodField b at = (v : ℕ) × (fieldAt at b ≡ Number v)
+
+-- questions 1 to 8 stand at 1 to 8, and there is no question 0
+abbrev pub questions : List ℕ → Sheet → List (Type 0)
+questions b w =
+    Unit {0}
+    ∷ (13 ≤ length b)
+    ∷ (GoodField b 0 × GoodField b 6 × (getD b 12 0 ≡ 10))
+    ∷ ((1 ≤ w .buyers) × (w .buyers ≤ 6))
+    ∷ ((1 ≤ w .lots) × (w .lots ≤ 4))
+    ∷ (length b ≡ 13 + w .buyers * (6 * (2 ^ w .lots - 1) + 1))
+    ∷ (((i c : ℕ) → i < w .buyers → suc c < 2 ^ w .lots → GoodField b (offset (w .lots) i c))
+    × ((i : ℕ) → i < w .buyers → getD b (offset (w .lots) i (2 ^ w .lots - 1)) 0 ≡ 10))
+    ∷ ((i s : ℕ) → i < w .buyers → s < 2 ^ w .lots → worth w i s ≤ 9999)
+    ∷ ((i s j : ℕ) → i < w .buyers → s < 2 ^ w .lots → j < w .lots → bit j s ≡ true → s ≢ 2 ^ j → worth w i (s - 2 ^ j) ≤ worth w i s)
+    ∷ []
+
+abbrev pub Question : List ℕ → ℕ → Type 0
+Question b k = getD (questions b (sheetOf b)) k (Unit {0})
+
+-- "With 6, 7 and 8 the place is the offset of the first faulty field's first byte, or of the faulty line end": what is wrong at place c of line i
+module _ (w : Sheet) (i c : ℕ) where
+  abbrev pub Malformed : List ℕ → Type 0
+  Malformed b =
+      ((suc c < 2 ^ w .lots) × (fieldAt (offset (w .lots) i c) b ≡ Faulty (offset (w .lots) i c)))
+      ⊎ ((suc c ≡ 2 ^ w .lots) × (getD b (offset (w .lots) i c) 0 ≢ 10))
+
+  abbrev pub TooLarge : Type 0
+  TooLarge = (suc c < 2 ^ w .lots) × (9999 < worth w i (suc c))
+
+  abbrev pub Falls : Type 0
+  Falls = (suc c < 2 ^ w .lots) × ((j : ℕ) × (j < w .lots) × (bit j (suc c) ≡ true) × (worth w i (suc c) < worth w i (suc c - 2 ^ j)))
+
+-- p is the offset of a place that is wrong, and of the first that is
+pub record WrongAt (w : Sheet) (T : ℕ → ℕ → Type 0) (p : ℕ) : Type 0 where
+  pub line : ℕ
+  pub place : ℕ
+  pub below : (line < w .buyers) × (place < 2 ^ w .lots)
+  pub offset-is : p ≡ offset (w .lots) line place
+  pub is-wrong : T line place
+
+pub record LeastPlace (w : Sheet) (T : ℕ → ℕ → Type 0) (p : ℕ) : Type 0 where
+  pub found : WrongAt w T p
+  pub least : (q : ℕ) → WrongAt w T q → p ≤ q
+
+-- an accepted sheet's shape: "m from 1 to 6 and n from 1 to 4. A worth is 0 to 9,999; the empty bundle is worth 0"; absent buyers and bundles have worth 0
+pub record Shape (w : Sheet) : Type 0 where
+  pub some-buyers : 1 ≤ w .buyers
+  pub few-buyers : w .buyers ≤ 6
+  pub some-lots : 1 ≤ w .lots
+  pub few-lots : w .lots ≤ 4
+  pub long : length (w .worths) ≡ 96
+  pub small : (k : ℕ) → getD (w .worths) k 0 ≤ 9999
+  pub empty : (i : ℕ) → worth w i 0 ≡ 0
+  pub nobody : (i s : ℕ) → s < 16 → w .buyers ≤ i → worth w i s ≡ 0
+  pub nothing : (i s : ℕ) → s < 16 → 2 ^ w .lots ≤ s → worth w i s ≡ 0
+
+-- and its bytes: the first line, and each buyer's line, in the columns in which their numbers are written
+pub record Written (b : List ℕ) (w : Sheet) : Type 0 where
+  pub long : length b ≡ 13 + w .buyers * lineLength (w .lots)
+  pub buyers : take 6 b ≡ columns 6 (w .buyers)
+  pub lots : take 6 (drop 6 b) ≡ columns 6 (w .lots)
+  pub head-end : getD b 12 0 ≡ 10
+  pub worths : (i c : ℕ) → i < w .buyers → suc c < 2 ^ w .lots → take 6 (drop (offset (w .lots) i c) b) ≡ columns 6 (worth w i (suc c))
+  pub ends : (i : ℕ) → i < w .buyers → getD b (offset (w .lots) i (2 ^ w .lots - 1)) 0 ≡ 10

@@ -1,0 +1,114 @@
+-- Laws of the greatest value (`most-upper`, `most-reached`, `most-is`), of kept members (`keep-in`, `keep-from`), of
+-- the first that passes (`first-in`, `first-passes`, `first-before`), of ordered lists and of lists of values.
+use mathlib.Core.Path.{_≡_, refl, ap, _∙_}
+use mathlib.Core.Bool.{Bool, true}
+use mathlib.Core.List.{List, [], _∷_, _++_, List·Memᴰ·head as here, List·Memᴰ·tail as there, List·Memᴰ·not-nil, List·Memᴰ·cases-cons, List·Memᴰ·append-cases}
+use mathlib.Core.Logic.{_⊎_, inl, inr}
+use Prim.Native.Nat.{ℕ, zero, suc, _+_, _≤_, _<_}
+use native.Mathlib.Omega.{arith}
+use native.Mathlib.Decide.{decLe, ℕ-discrete}
+use lib.ListN.{length, getD}
+use Rattle.theory.specs.Sums.{Among}
+use Rattle.theory.specs.Lists.{_∈_, most, keep, first, Ordered, tabulate, upTo}
+use Rattle.theory.proofs.Tests.{by-test}
+
+module _ {A : Type 0} where
+  pub most-upper : (f : A → ℕ) {a : A} {l : List A} → a ∈ l → f a ≤ most f l
+  most-upper f (here e) = omega (arith, ap f e)
+  most-upper f (there m) = omega (arith, most-upper f m)
+
+  pub most-bound : (f : A → ℕ) (n : ℕ) (l : List A) → ((a : A) → a ∈ l → f a ≤ n) → most f l ≤ n
+  most-bound f n [] h = omega arith
+  most-bound f n (a ∷ l) h = omega (arith, h a (here refl), most-bound f n l (λ b m. h b (there m)))
+
+  -- an upper bound that is reached is the greatest value
+  pub most-is : (f : A → ℕ) (n : ℕ) {a : A} {l : List A} → ((b : A) → b ∈ l → f b ≤ n) → a ∈ l → f a ≡ n → most f l ≡ n
+  most-is f n {a} {l} h m e = omega (arith, most-bound f n l h, most-upper f m)
+
+  pub most-same : (f g : A → ℕ) (l : List A) → ((a : A) → a ∈ l → f a ≡ g a) → most f l ≡ most g l
+  most-same f g [] h = refl
+  most-same f g (a ∷ l) h = rw (h a (here refl), most-same f g l (λ b m. h b (there m)))
+
+  pub most-subset : (f : A → ℕ) {l k : List A} → ((a : A) → a ∈ l → a ∈ k) → most f l ≤ most f k
+  most-subset f {l} {k} h = most-bound f (most f k) l (λ a m. most-upper f (h a m))
+
+  Reached : (A → ℕ) → List A → Type 0
+  Reached f l = (b : A) × (b ∈ l) × (f b ≡ most f l)
+
+  reached : (f : A → ℕ) (a : A) (l : List A) → Reached f (a ∷ l)
+  unfolding Reached
+  reached f a [] = (a, here refl, omega arith)
+  reached f a (c ∷ l) =
+      let (b, m, e) = reached f c l in
+      elim (decLe (f a) (f b)) [ yes h ↦ (b, there m, omega arith) | no h ↦ (a, here refl, omega arith) ]
+
+  -- the greatest value over a list that has a member is reached
+  pub most-reached : (f : A → ℕ) {a : A} {l : List A} → a ∈ l → (b : A) × (b ∈ l) × (f b ≡ most f l)
+  unfolding Reached
+  most-reached f (here {x = x} {xs = xs} e) = reached f x xs
+  most-reached f (there {x = x} {xs = xs} m) = reached f x xs
+
+  pub keep-in : (t : A → Bool) {a : A} {l : List A} → a ∈ l → t a ≡ true → a ∈ keep t l
+  keep-in t (here e) p = rw (rw e at p) (here e)
+  keep-in t (there {x = x} m) p = by-test (t x) (λ e. rw e (there (keep-in t m p))) (λ e. rw e (keep-in t m p))
+
+  pub keep-from : (t : A → Bool) {a : A} (l : List A) → a ∈ keep t l → (a ∈ l) × (t a ≡ true)
+  keep-from t [] m = absurd (List·Memᴰ·not-nil m)
+  keep-from t {a} (x ∷ l) m =
+      by-test (t x)
+      (λ e. elim (List·Memᴰ·cases-cons (rw e at m)) [
+        | inl q ↦ (here q, ap t q ∙ e)
+        | inr n ↦ let (n′, p) = keep-from t l n in (there n′, p)
+      ])
+      (λ e. let (n, p) = keep-from t l (rw e at m) in (there n, p))
+
+  pub first-same : (t u : A → Bool) (d : A) (l : List A) → ((a : A) → a ∈ l → t a ≡ u a) → first t d l ≡ first u d l
+  first-same t u d [] h = refl
+  first-same t u d (a ∷ l) h = rw (h a (here refl), first-same t u d l (λ b m. h b (there m)))
+
+  pub first-in : (t : A → Bool) (d : A) {a : A} {l : List A} → a ∈ l → t a ≡ true → first t d l ∈ l
+  first-in t d (here e) p = rw (rw e at p) (here refl)
+  first-in t d (there {x = x} m) p = by-test (t x) (λ e. rw e (here refl)) (λ e. rw e (there (first-in t d m p)))
+
+  pub first-passes : (t : A → Bool) (d : A) {a : A} {l : List A} → a ∈ l → t a ≡ true → t (first t d l) ≡ true
+  first-passes t d (here e) p = let q = rw e at p in rw q q
+  first-passes t d (there {x = x} m) p = by-test (t x) (λ e. rw e e) (λ e. rw e (first-passes t d m p))
+
+  -- in an ordered list, the first that passes comes before every other that does
+  pub first-before : (t : A → Bool) (d : A) (R : A → A → Type 0) {a : A} {l : List A} →
+      Ordered R l → a ∈ l → t a ≡ true → (a ≡ first t d l) ⊎ R (first t d l) a
+  first-before t d R o (here e) p = rw (rw e at p) (inl e)
+  first-before t d R {a} o (there {x = x} m) p =
+      by-test (t x) (λ e. rw e (inr (o .0 a m))) (λ e. rw e (first-before t d R (o .1) m p))
+
+pub ordered-append : {A : Type 0} (R : A → A → Type 0) (l k : List A) → Ordered R l → Ordered R k →
+    ((a b : A) → a ∈ l → b ∈ k → R a b) → Ordered R (l ++ k)
+ordered-append R [] k o p h = p
+ordered-append R (a ∷ l) k o p h = (
+  λ b m. elim (List·Memᴰ·append-cases l m) [ inl n ↦ o .0 b n | inr n ↦ h a b (here refl) n ],
+  ordered-append R l k (o .1) p (λ b c m n. h b c (there m) n),
+)
+
+pub tabulate-at : {A : Type 0} (k s : ℕ) (f : ℕ → A) (j : ℕ) (d : A) → j < k → getD (tabulate k s f) j d ≡ f (s + j)
+tabulate-at zero s f j d h = absurd (omega arith)
+tabulate-at (suc k) s f zero d h = ap f (omega arith)
+tabulate-at (suc k) s f (suc j) d h = tabulate-at k (suc s) f j d (omega arith) ∙ ap f (omega arith)
+
+pub tabulate-length : {A : Type 0} (k s : ℕ) (f : ℕ → A) → length (tabulate k s f) ≡ k
+tabulate-length zero s f = refl
+tabulate-length (suc k) s f = ap suc (tabulate-length k (suc s) f)
+
+pub tabulate-same : {A : Type 0} (k s : ℕ) (f g : ℕ → A) → ((j : ℕ) → Among k s j → f j ≡ g j) →
+    tabulate k s f ≡ tabulate k s g
+tabulate-same zero s f g h = refl
+tabulate-same (suc k) s f g h = rw (h s (omega arith), tabulate-same k (suc s) f g (λ j r. h j (omega arith)))
+
+pub upTo-in : (k s : ℕ) {i : ℕ} → Among k s i → i ∈ upTo k s
+upTo-in zero s r = absurd (omega arith)
+upTo-in (suc k) s {i} r =
+    elim (ℕ-discrete i s) [ yes e ↦ here e | no n ↦ there (upTo-in k (suc s) (omega arith)) ]
+
+pub upTo-from : (k s : ℕ) {i : ℕ} → i ∈ upTo k s → Among k s i
+upTo-from zero s m = absurd (List·Memᴰ·not-nil m)
+upTo-from (suc k) s m =
+    elim (List·Memᴰ·cases-cons m) [ inl e ↦ omega arith | inr n ↦ omega (arith, upTo-from k (suc s) n) ]

@@ -1,0 +1,68 @@
+-- Laws of sums over a range: order (`sum-mono`, `sum-tight`), addition (`sum-add`), and sums of functions that differ
+-- at one place (`sum-but`, `sum-swap`).
+use mathlib.Core.Path.{_≡_, refl, sym, ap}
+use mathlib.Core.Logic.{_≢_}
+use Prim.Native.Nat.{ℕ, zero, suc, _+_, _≤_}
+use native.Mathlib.Omega.{arith}
+use native.Mathlib.Decide.{ℕ-discrete}
+use lib.Dec.{eqb}
+use borrow.Author.Tests.{eq-eqb, ne-eqb}
+use Rattle.theory.specs.Sums.{when, sum, Among}
+
+pub sum-mono : (k s : ℕ) (f g : ℕ → ℕ) → ((i : ℕ) → Among k s i → f i ≤ g i) → sum k s f ≤ sum k s g
+sum-mono zero s f g h = omega arith
+sum-mono (suc k) s f g h = omega (arith, h s (omega arith), sum-mono k (suc s) f g (λ i r. h i (omega arith)))
+
+pub sum-same : (k s : ℕ) (f g : ℕ → ℕ) → ((i : ℕ) → Among k s i → f i ≡ g i) → sum k s f ≡ sum k s g
+sum-same k s f g h =
+    omega (
+      arith,
+      sum-mono k s f g (λ i r. omega (arith, h i r)),
+      sum-mono k s g f (λ i r. omega (arith, h i r)),
+    )
+
+pub sum-add : (k s : ℕ) (f g : ℕ → ℕ) → sum k s (λ i. f i + g i) ≡ sum k s f + sum k s g
+sum-add zero s f g = refl
+sum-add (suc k) s f g = omega (arith, sum-add k (suc s) f g)
+
+pub sum-zero : (k s : ℕ) → sum k s (λ _. 0) ≡ 0
+sum-zero zero s = refl
+sum-zero (suc k) s = omega (arith, sum-zero k (suc s))
+
+-- where f is at most g at every place but i, so are their sums without that place
+pub sum-but : (k s : ℕ) (f g : ℕ → ℕ) (i : ℕ) → Among k s i →
+    ((j : ℕ) → Among k s j → j ≢ i → f j ≤ g j) → sum k s f + g i ≤ sum k s g + f i
+sum-but zero s f g i r h = omega arith
+sum-but (suc k) s f g i r h =
+    elim (ℕ-discrete s i) [
+      | yes e ↦ omega (arith, ap f e, ap g e, sum-mono k (suc s) f g (λ j q. h j (omega arith) (omega arith)))
+      | no n ↦ omega (arith, h s (omega arith) n, sum-but k (suc s) f g i (omega arith) (λ j q. h j (omega arith)))
+    ]
+
+-- two functions that differ at most at i
+pub sum-swap : (k s : ℕ) (f g : ℕ → ℕ) (i : ℕ) → Among k s i →
+    ((j : ℕ) → Among k s j → j ≢ i → f j ≡ g j) → sum k s f + g i ≡ sum k s g + f i
+sum-swap k s f g i r h =
+    omega (
+      arith,
+      sum-but k s f g i r (λ j q n. omega (arith, h j q n)),
+      sum-but k s g f i r (λ j q n. omega (arith, h j q n)),
+    )
+
+-- where f is at most g at every place and its sum is no less, they are equal, place by place
+pub sum-tight : (k s : ℕ) (f g : ℕ → ℕ) → ((i : ℕ) → Among k s i → f i ≤ g i) → sum k s g ≤ sum k s f →
+    (i : ℕ) → Among k s i → f i ≡ g i
+sum-tight k s f g h e i r = omega (arith, h i r, sum-but k s f g i r (λ j q n. h j q))
+
+-- a sum of which only the place i counts
+pub sum-only : (k s : ℕ) (i n : ℕ) → Among k s i → sum k s (λ j. when (eqb i j) n) ≡ n
+sum-only k s i n r =
+    omega (
+      arith,
+      sum-zero k s,
+      sum-swap k s (λ j. when (eqb i j) n) (λ _. 0) i r (λ j q z. rw (ne-eqb i j (λ e. z (sym e)))),
+      ap (λ b. when b n) (eq-eqb i i refl),
+    )
+
+pub sum-part : (k s : ℕ) (f : ℕ → ℕ) (i : ℕ) → Among k s i → f i ≤ sum k s f
+sum-part k s f i r = omega (arith, sum-but k s (λ _. 0) f i r (λ j q n. omega arith))

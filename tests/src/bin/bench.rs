@@ -1,0 +1,49 @@
+//! Times the reading of the longest sheet by the library and by the Rust reader, turn by turn.
+
+#![forbid(unsafe_code)]
+
+use std::hint::black_box;
+use std::time::Instant;
+
+use comparison::generator::{bytes_of, Generator};
+use comparison::library;
+use comparison::reckoning::sheet::{read_sheet, MOST_BUYERS, MOST_LOTS};
+
+const SEED: u64 = 1;
+const REPETITIONS: usize = 51;
+const READINGS: u32 = 20_000;
+
+fn main() {
+    let sheet = Generator::new(SEED).monotone(MOST_BUYERS, MOST_LOTS);
+    let bytes = bytes_of(&sheet);
+    assert_eq!(library::read_sheet(&bytes).number, 0);
+    assert_eq!(read_sheet(&bytes), Ok(sheet));
+
+    let (mut library, mut rust) = (Vec::new(), Vec::new());
+    for _ in 0..REPETITIONS {
+        library.push(nanoseconds(|| library::read_sheet(black_box(&bytes))));
+        rust.push(nanoseconds(|| read_sheet(black_box(&bytes))));
+    }
+    let (library, rust) = (median(library), median(rust));
+    println!(
+        "read_sheet of {} bytes, medians of {REPETITIONS} × {READINGS} readings",
+        bytes.len()
+    );
+    println!("library: {library:.0} ns");
+    println!("Rust: {rust:.0} ns");
+    println!("library / Rust: {:.2}", library / rust);
+}
+
+/// The time of one reading, as the mean of many.
+fn nanoseconds<T>(read: impl Fn() -> T) -> f64 {
+    let start = Instant::now();
+    for _ in 0..READINGS {
+        black_box(read());
+    }
+    start.elapsed().as_nanos() as f64 / f64::from(READINGS)
+}
+
+fn median(mut times: Vec<f64>) -> f64 {
+    times.sort_by(f64::total_cmp);
+    times[times.len() / 2]
+}

@@ -1,0 +1,58 @@
+//! The proved library behind safe functions. Its symbols and the layout of their answers are
+//! declared here and nowhere else.
+
+/// A refusal's number and place, or an accepted sheet's buyers and lots.
+#[repr(C)]
+#[derive(Clone, Debug, PartialEq, Eq)]
+pub struct Read {
+    pub number: u8,
+    pub place: u32,
+    pub buyers: u8,
+    pub lots: u8,
+}
+
+/// The next column and, with number 0, the field's number as value; with number 6, the faulty
+/// offset.
+#[repr(C)]
+#[derive(Clone, Debug, PartialEq, Eq)]
+pub struct FieldAnswer {
+    pub next: usize,
+    pub number: u8,
+    pub value: usize,
+}
+
+/// As `Read`, with an accepted sheet's worths, sixteen to a buyer: buyer i's worth of a bundle
+/// stands at 16 × (i − 1) + the bundle's number.
+#[repr(C)]
+#[derive(Clone, Debug, PartialEq, Eq)]
+pub struct Worths {
+    pub number: u8,
+    pub place: u32,
+    pub buyers: u8,
+    pub lots: u8,
+    pub worths: [u16; 96],
+}
+
+// SAFETY: a slice crosses as pointer and length, an answer as the `repr(C)` struct above. The
+// entries are proved to answer every sheet and column, reading the lent bytes alone.
+#[allow(improper_ctypes)]
+unsafe extern "C" {
+    safe fn hokewhuni_read_sheet(sheet: &[u8]) -> Read;
+    safe fn hokewhuni_read_field(sheet: &[u8], at: usize) -> FieldAnswer;
+    safe fn hokewhuni_read_worths(sheet: &[u8]) -> Worths;
+}
+
+/// The library's answer to questions 1 to 8.
+pub fn read_sheet(sheet: &[u8]) -> Read {
+    hokewhuni_read_sheet(sheet)
+}
+
+/// The library's reading of the field at a column, any column.
+pub fn read_field(sheet: &[u8], at: usize) -> FieldAnswer {
+    hokewhuni_read_field(sheet, at)
+}
+
+/// The library's answer to questions 1 to 8 with the worths.
+pub fn read_worths(sheet: &[u8]) -> Worths {
+    hokewhuni_read_worths(sheet)
+}

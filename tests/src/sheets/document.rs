@@ -1,0 +1,101 @@
+//! The sheets of document 01, with the answers that it names.
+
+use crate::generator::bytes_of;
+use crate::reckoning::sheet::{bundles, Refusal, Sheet, Table, MOST_BUYERS, MOST_LOTS};
+use crate::tally::Tally;
+
+/// Accepted sheets, with their lots and each buyer's worths.
+const ACCEPTED: [(&str, usize, &[&[u16]]); 7] = [
+    // The printed sale.
+    (
+        "     2     2\n     2     0     2\n     0     1     3\n",
+        2,
+        &[&[2, 0, 2], &[0, 1, 3]],
+    ),
+    // Table 3 of source document 000.
+    (
+        "     3     2\n     3     0     3\n     0     6     6\n     0     2     4\n",
+        2,
+        &[&[3, 0, 3], &[0, 6, 6], &[0, 2, 4]],
+    ),
+    // One lot, worths 5 and 3.
+    ("     2     1\n     5\n     3\n", 1, &[&[5], &[3]]),
+    // One lot, worths 4 and 4.
+    ("     2     1\n     4\n     4\n", 1, &[&[4], &[4]]),
+    // One buyer, one lot, worth 7: the shortest sheet, of 20 bytes.
+    ("     1     1\n     7\n", 1, &[&[7]]),
+    // One lot, two worths of 0.
+    ("     2     1\n     0\n     0\n", 1, &[&[0], &[0]]),
+    // Worth 9,999 passes.
+    ("     1     1\n  9999\n", 1, &[&[9_999]]),
+];
+
+/// Refused sheets, with their number and place.
+const REFUSED: [(&str, u8, usize); 11] = [
+    // 12 bytes.
+    ("     1     1", 1, 0),
+    // A sole good first line, 1 and 1.
+    ("     1     1\n", 5, 0),
+    // Two buyers, two lots, first line of worths 4, 0, 3.
+    (
+        "     2     2\n     4     0     3\n     0     1     3\n",
+        8,
+        25,
+    ),
+    // Worth 10,000 gives 7.
+    ("     1     1\n 10000\n", 7, 13),
+    (
+        "     2     2\n     2     0     2\n     0     1 10000\n",
+        7,
+        44,
+    ),
+    // A worth field "    03" gives 6.
+    ("     1     1\n    03\n", 6, 13),
+    (
+        "     2     2\n     2     0    03\n     0     1     3\n",
+        6,
+        25,
+    ),
+    // In the first line it gives 2.
+    ("    03     1\n     7\n     7\n     7\n", 2, 0),
+    ("     1    03\n     7\n", 2, 0),
+    ("    03     1\n", 2, 0),
+    ("     1    03\n", 2, 0),
+];
+
+/// The length of the longest sheet, six buyers and four lots.
+const LONGEST: usize = 559;
+
+pub fn compare(tally: &mut Tally) {
+    tally.group("sheets of document 01", |tally| {
+        for (text, lots, rows) in ACCEPTED {
+            tally.known_sheet(text.as_bytes(), &Ok(sheet_of(lots, rows)));
+        }
+        for (text, number, place) in REFUSED {
+            tally.known_sheet(text.as_bytes(), &Err(Refusal { number, place }));
+        }
+        longest(tally);
+    });
+}
+
+/// "Lengths 20 (one buyer, one lot) and 559 (six, four) can be accepted."
+fn longest(tally: &mut Tally) {
+    let row: Vec<u16> = (1..=bundles(MOST_LOTS) as u16).collect();
+    let sheet = sheet_of(MOST_LOTS, &[&row[..]; MOST_BUYERS]);
+    let bytes = bytes_of(&sheet);
+    assert_eq!(bytes.len(), LONGEST);
+    tally.known_sheet(&bytes, &Ok(sheet));
+}
+
+/// The sheet with these rows of worths, from bundle 1 on.
+fn sheet_of(lots: usize, rows: &[&[u16]]) -> Sheet {
+    let mut worths = Table::default();
+    for (line, row) in worths.iter_mut().zip(rows) {
+        line[1..=bundles(lots)].copy_from_slice(row);
+    }
+    Sheet {
+        buyers: rows.len(),
+        lots,
+        worths,
+    }
+}
