@@ -16,7 +16,7 @@ use Rattle.sheet.specs.declared.Head.{Head}
 use Rattle.sheet.specs.Fields.{fieldAt, fieldRead, good, numberOf}
 use Rattle.sheet.specs.Sheets.{lineLength, offset, Sheet, numberAt}
 use Rattle.sheet.specs.Questions.{fault, askEach, headGood, between, wrong, firstWrong, linesFault, sheetFault}
-use Rattle.sheet.specs.Answers.{HeadRead, HeadAsked}
+use Rattle.sheet.specs.Steps.{HeadRead, HeadAsked}
 
 -- a question put to each place
 abbrev pub askedAlone : ℕ → ℕ → ℕ → Fault

@@ -1,4 +1,5 @@
--- A field says v exactly where its six columns are those in which v is written (`field-canonical`). Before the last k digits of w the number so far is w / 10 ^ k, and they are the digits of w % 10 ^ k. Assumes nothing.
+-- A field says v exactly where its six columns are those in which v is written (`field-canonical`).
+-- Before the last k digits of w the number so far is w / 10 ^ k, and they are the digits of w % 10 ^ k. Assumes nothing.
 use mathlib.Core.Path.{_≡_, refl, sym, ap, subst, _∙_}
 use mathlib.Core.Logic.{_↔_}
 use mathlib.Core.List.{List, [], _∷_}

@@ -8,13 +8,13 @@ use native.Mathlib.Omega.{arith}
 use lib.Dec.{eqb, ltb, leb}
 use lib.ListN.{getD}
 use borrow.Author.Tests.{lt-ltb, le-ltb, le-leb, lt-leb, eq-eqb, ne-eqb}
-use Rattle.theory.specs.Tests.{_⊃_, every}
+use Rattle.theory.specs.Tests.{_⊃_}
 use Rattle.theory.proofs.Tests.{by-test}
 use Rattle.sheet.specs.declared.Field.{Field}
 use Rattle.sheet.specs.declared.FieldRead.{FieldRead}
 use Rattle.sheet.specs.Fields.{fieldAt, fieldRead, good}
 use Rattle.sheet.specs.Sheets.{offset, bit, Sheet, numberAt, worthPlace, worth}
-use Rattle.sheet.specs.Questions.{between, malformed, tooLarge, falls, wrong}
+use Rattle.sheet.specs.Questions.{between, malformed, tooLarge, grows, falls, wrong}
 
 -- the field that was read
 pub field-read : (b : List ℕ) (at : ℕ) (r : FieldRead) (f : Field) → r ≡ fieldRead b at → r .field ≡ f → fieldAt at b ≡ f
@@ -45,8 +45,8 @@ module _ (w : Sheet) (i c : ℕ) where
     pub large-field : ltb 9999 (worth w i (c + 1)) ≡ tooLarge w i c
     large-field = rw (field-here, add-one c)
 
-    pub falls-field : (t : Bool) → t ≡ every (w .lots) 0 (λ j. bit j (c + 1) ⊃ leb (worth w i (c + 1 - 2 ^ j)) (worth w i (c + 1))) → not t ≡ falls w i c
-    falls-field t e = rw (field-here, e) (ap (λ s. not (every (w .lots) 0 (λ j. bit j s ⊃ leb (worth w i (s - 2 ^ j)) (worth w i s)))) (add-one c))
+    pub falls-field : (t : Bool) → t ≡ grows w i (c + 1) → not t ≡ falls w i c
+    falls-field t e = rw (field-here, e) (ap (λ s. not (grows w i s)) (add-one c))
 
   module _ (h : 2 ^ w .lots ≤ c + 1) where
     end-here : ltb (suc c) (2 ^ w .lots) ≡ false

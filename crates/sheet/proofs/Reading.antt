@@ -1,43 +1,28 @@
 -- The ways out of reading a sheet whole: refused by the first line, refused by the lines, accepted. Assumes nothing.
-use mathlib.Core.Path.{_≡_, refl, sym, ap, _∙_}
+use mathlib.Core.Path.{_≡_, sym, ap, _∙_}
 use mathlib.Core.List.{List}
 use Prim.Native.Nat.{ℕ}
 use native.Mathlib.Omega.{arith}
-use lib.ListN.{length, getD, replicate}
+use lib.ListN.{length, getD}
 use borrow.Author.Tests.{eq-eqb, ne-eqb}
-use Rattle.theory.specs.Sums.{pick, when}
 use Rattle.sheet.specs.declared.Fault.{Fault}
 use Rattle.sheet.specs.declared.Head.{Head}
 use Rattle.sheet.specs.declared.Worths.{Worths}
 use Rattle.sheet.specs.Sheets.{Sheet, asSheet, worthsIn, sheetOf}
-use Rattle.sheet.specs.Questions.{fault, accepts, linesFault, sheetFault}
-use Rattle.sheet.specs.Answers.{Small, Passed, HeadAsked, refusal, worthsRead, sheetRead}
+use Rattle.sheet.specs.Questions.{fault, linesFault, sheetFault}
+use Rattle.sheet.specs.Answers.{refusal, worthsBy, worthsRead, sheetRead}
+use Rattle.sheet.specs.Steps.{Small, Passed, HeadAsked}
 use Rattle.sheet.proofs.Theorems.{accepted-shape, place-zero}
 
--- the answer by the fault and the sheet
-answer : Fault → Sheet → Worths
-answer f w =
-    record {
-      number = f .number;
-      place = f .place;
-      buyers = when (accepts f) (w .buyers);
-      lots = when (accepts f) (w .lots);
-      worths = pick (accepts f) (w .worths) (replicate 96 0);
-    }
-
-refusal-is : (f : Fault) (w : Sheet) → (f .number ≡ 0 → ⊥) → refusal (f .number) (f .place) ≡ answer f w
-unfolding refusal answer
+refusal-is : (f : Fault) (w : Sheet) → (f .number ≡ 0 → ⊥) → refusal (f .number) (f .place) ≡ worthsBy f w
+unfolding refusal worthsBy
 refusal-is f w h = rw (ne-eqb (f .number) 0 h)
 
 module _ (b : List ℕ) where
-  answer-is : answer (sheetFault b) (sheetOf b) ≡ worthsRead b
-  unfolding answer worthsRead
-  answer-is = refl
-
   pub refused-head : (h : Head) → HeadAsked b h → (h .number ≡ 0 → ⊥) → (r : Worths) → r ≡ refusal (h .number) 0 → r ≡ worthsRead b
+  unfolding worthsRead
   refused-head h asked z r e =
-      let f = asked .refused z in
-      e ∙ refusal-is (fault (h .number) 0) (sheetOf b) z ∙ ap (λ g. answer g (sheetOf b)) (sym f) ∙ answer-is
+      e ∙ refusal-is (fault (h .number) 0) (sheetOf b) z ∙ ap (λ g. worthsBy g (sheetOf b)) (sym (asked .refused z))
 
   -- the first line passes; ws are the numbers read, g the fault of the lines
   module _ (h : Head) (p : Passed b h) (ws : List ℕ) (ews : ws ≡ worthsIn (h .buyers) (h .lots) b) (g : Fault) (eg : g ≡ linesFault b (asSheet (h .buyers) (h .lots) ws)) where
@@ -48,7 +33,8 @@ module _ (b : List ℕ) where
     fault-is = eg ∙ ap (linesFault b) sheet-is ∙ sym (p .rest)
 
     pub refused-lines : (g .number ≡ 0 → ⊥) → (r : Worths) → r ≡ refusal (g .number) (g .place) → r ≡ worthsRead b
-    refused-lines z r e = e ∙ refusal-is g (sheetOf b) z ∙ ap (λ f. answer f (sheetOf b)) fault-is ∙ answer-is
+    unfolding worthsRead
+    refused-lines z r e = e ∙ refusal-is g (sheetOf b) z ∙ ap (λ f. worthsBy f (sheetOf b)) fault-is
 
     module _ (z : g .number ≡ 0) where
       accepted : sheetFault b .number ≡ 0
@@ -63,7 +49,7 @@ module _ (b : List ℕ) where
           record { long = ap length worths-are ∙ s .long; small = λ k. omega (arith, s .small k, ap (λ l. getD l k 0) worths-are) }
 
       pub accepted-worths : (t : List ℕ) → t ≡ ws → record { number = 0; place = 0; buyers = h .buyers; lots = h .lots; worths = t } ≡ worthsRead b
-      unfolding worthsRead
+      unfolding worthsRead worthsBy
       accepted-worths t e =
           rw (
             eq-eqb (sheetFault b .number) 0 accepted,
@@ -76,5 +62,5 @@ module _ (b : List ℕ) where
           )
 
 pub read-only : (b : List ℕ) (r : Worths) → r ≡ worthsRead b → record { number = r .number; place = r .place; buyers = r .buyers; lots = r .lots } ≡ sheetRead b
-unfolding worthsRead sheetRead
-read-only b r e = rw e refl
+unfolding sheetRead
+read-only b r e = ap (λ (x : Worths). record { number = x .number; place = x .place; buyers = x .buyers; lots = x .lots }) e

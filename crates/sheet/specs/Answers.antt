@@ -1,24 +1,21 @@
--- What the functions that read a sheet answer, refused or not.
-use mathlib.Core.Path.{_≡_}
-use mathlib.Core.Bool.{true, false}
+-- What the public functions that read a sheet answer, refused or not: `worthsRead`, `sheetRead`. (`fieldRead` stands in Fields.)
 use mathlib.Core.List.{List}
-use Prim.Native.Nat.{ℕ, _≤_}
-use lib.ListN.{length, getD, replicate}
+use Prim.Native.Nat.{ℕ}
+use lib.ListN.{replicate}
 use Rattle.theory.specs.Sums.{pick, when}
-use Rattle.sheet.specs.declared.Head.{Head}
+use Rattle.sheet.specs.declared.Fault.{Fault}
 use Rattle.sheet.specs.declared.Read.{Read}
 use Rattle.sheet.specs.declared.Worths.{Worths}
-use Rattle.sheet.specs.Sheets.{numberAt, sheetOf}
-use Rattle.sheet.specs.Questions.{fault, accepts, headGood, linesFault, sheetFault}
+use Rattle.sheet.specs.Sheets.{Sheet, sheetOf}
+use Rattle.sheet.specs.Questions.{accepts, sheetFault}
 
 -- "A refusal returns its number and place, every other number 0"
 unfoldable pub refusal : ℕ → ℕ → Worths
 refusal k p = record { number = k; place = p; buyers = 0; lots = 0; worths = replicate 96 0 }
 
-unfoldable pub worthsRead : List ℕ → Worths
-worthsRead b =
-    let f = sheetFault b in
-    let w = sheetOf b in
+-- by the fault and what the bytes say
+unfoldable pub worthsBy : Fault → Sheet → Worths
+worthsBy f w =
     record {
       number = f .number;
       place = f .place;
@@ -27,40 +24,9 @@ worthsRead b =
       worths = pick (accepts f) (w .worths) (replicate 96 0);
     }
 
+unfoldable pub worthsRead : List ℕ → Worths
+worthsRead b = worthsBy (sheetFault b) (sheetOf b)
+
+-- the same without the worths
 unfoldable pub sheetRead : List ℕ → Read
-sheetRead b =
-    let f = sheetFault b in
-    let w = sheetOf b in
-    record {
-      number = f .number;
-      place = f .place;
-      buyers = when (accepts f) (w .buyers);
-      lots = when (accepts f) (w .lots);
-    }
-
--- r is x, and at most m
-pub record Is (x r m : ℕ) : Type 0 where
-  pub is : r ≡ x
-  pub most : r ≤ m
-
--- ninety-six numbers that are worths
-pub record Small (l : List ℕ) : Type 0 where
-  pub long : length l ≡ 96
-  pub small : (k : ℕ) → getD l k 0 ≤ 9999
-
--- the first line of a sheet that is long enough, read for question 2
-pub record HeadRead (b : List ℕ) (r : Head) : Type 0 where
-  pub refused : (r .number ≡ 0 → ⊥) → (r .number ≡ 2) × (headGood b ≡ false)
-  pub passed : r .number ≡ 0 → (headGood b ≡ true) × (r .buyers ≡ numberAt 0 b) × (r .lots ≡ numberAt 6 b)
-
--- a first line that questions 1 to 5 let pass, and one that was asked them
-pub record Passed (b : List ℕ) (r : Head) : Type 0 where
-  pub buyers : r .buyers ≡ numberAt 0 b
-  pub lots : r .lots ≡ numberAt 6 b
-  pub few-buyers : r .buyers ≤ 6
-  pub few-lots : r .lots ≤ 4
-  pub rest : sheetFault b ≡ linesFault b (sheetOf b)
-
-pub record HeadAsked (b : List ℕ) (r : Head) : Type 0 where
-  pub refused : (r .number ≡ 0 → ⊥) → sheetFault b ≡ fault (r .number) 0
-  pub passed : r .number ≡ 0 → Passed b r
+sheetRead b = let r = worthsRead b in record { number = r .number; place = r .place; buyers = r .buyers; lots = r .lots }

@@ -1,5 +1,5 @@
--- The questions as propositions, as document 01 words them, to read a sheet's fault by: `Question` k, what is wrong at an offset with 6, 7 and 8, and
--- what is known of a sheet that is accepted.
+-- The questions as propositions, in document 01's words, to read a sheet's fault by (`Question`); what is wrong at an offset with 6, 7 and 8 (`WrongAt`,
+-- `LeastPlace`); and what is known of an accepted sheet (`Shape`, `Written`).
 use mathlib.Core.Path.{_≡_}
 use mathlib.Core.Logic.{_≢_, _⊎_}
 use mathlib.Core.Bool.{true}
@@ -13,7 +13,9 @@ use Rattle.sheet.specs.Sheets.{lineLength, offset, bit, Sheet, sheetOf, 
 abbrev pub GoodField : List ℕ → ℕ → Type 0
 GoodField b at = (v : ℕ) × (fieldAt at b ≡ Number v)
 
--- questions 1 to 8 stand at 1 to 8, and there is no question 0
+-- "Has it 13 bytes or more?" "Is the first line two good fields and a line end at offset 12?" "Is the number of buyers 1 to 6?" "Is the number of lots
+-- 1 to 4?" "Is the length exactly 13 + m × (6 × (2^n − 1) + 1)?" "Are all later fields and line ends good?" "Is every worth at most 9,999?" "Is every
+-- bundle of two or more lots worth at least as much as each bundle with one lot fewer?" They stand at 1 to 8; there is no question 0.
 abbrev pub questions : List ℕ → Sheet → List (Type 0)
 questions b w =
     Unit {0}

@@ -4,3 +4,4 @@ pub mod Sheets
 pub mod Questions
 pub mod Claims
 pub mod Answers
+pub mod Steps

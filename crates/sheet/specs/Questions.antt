@@ -1,4 +1,4 @@
--- "Questions put to a sheet": 1 to 8. Offers the fault of a sheet (`sheetFault`), and the questions as propositions, to read the fault by (`Question`).
+-- "Questions put to a sheet": 1 to 8, as tests. Offers the fault of a sheet (`sheetFault`): the number and place of the first "no", 0 and 0 for none.
 use mathlib.Core.Bool.{Bool, true, false, not, _&&_}
 use mathlib.Core.List.{List}
 use Prim.Native.Nat.{ℕ, zero, suc, _+_, _-_, _*_, _/_, _%_, _^_}
@@ -37,8 +37,13 @@ between k m = leb 1 m && leb m k
 abbrev pub rightLength : List ℕ → Sheet → Bool
 rightLength b w = eqb (length b) (13 + w .buyers * lineLength (w .lots))
 
+-- the bundle s of line i is worth at least as much as each bundle with one lot fewer (the empty one, worth 0, among them)
+abbrev pub grows : Sheet → ℕ → ℕ → Bool
+grows w i s = every (w .lots) 0 (λ j. bit j s ⊃ leb (worth w i (s - 2 ^ j)) (worth w i s))
+
 -- the "no" of questions 6, 7 and 8 at place c of line i
 module _ (w : Sheet) (i c : ℕ) where
+  -- a field, and not the line end
   abbrev pub isField : Bool
   isField = ltb (suc c) (2 ^ w .lots)
 
@@ -49,7 +54,7 @@ module _ (w : Sheet) (i c : ℕ) where
   tooLarge = isField && ltb 9999 (worth w i (suc c))
 
   abbrev pub falls : Bool
-  falls = isField && not (every (w .lots) 0 (λ j. bit j (suc c) ⊃ leb (worth w i (suc c - 2 ^ j)) (worth w i (suc c))))
+  falls = isField && not (grows w i (suc c))
 
 -- by the question's number
 abbrev pub wrong : ℕ → List ℕ → Sheet → ℕ → ℕ → Bool

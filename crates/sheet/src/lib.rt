@@ -1,15 +1,13 @@
 // Reads a lot sheet: its fields, questions 1 to 8, its worths.
 ghost use mathlib.Core.Path.{_≡_};
-ghost use mathlib.Core.Bool.{not};
 ghost use mathlib.Core.List.{[]};
-ghost use Prim.Native.Nat.{_+_, _-_, _*_, _/_, _%_, _^_, _≤_, _<_};
-ghost use lib.Dec.{leb};
+ghost use Prim.Native.Nat.{_+_, _*_, _/_, _%_, _^_, _≤_, _<_};
 ghost use lib.ListN.{length, take, drop, getD};
-ghost use Rattle.theory.specs.Tests.{_⊃_, every};
 ghost use Rattle.sheet.specs.Fields.{fieldFrom, fieldAt, fieldRead, good};
-ghost use Rattle.sheet.specs.Sheets.{lineLength, offset, bit, asSheet, numberAt, worthPlace, worthsIn, worth};
-ghost use Rattle.sheet.specs.Questions.{fault, askEach, between, malformed, tooLarge, falls, wrong, firstWrong, linesFault};
-ghost use Rattle.sheet.specs.Answers.{Is, Small, HeadRead, HeadAsked, refusal, sheetRead, worthsRead};
+ghost use Rattle.sheet.specs.Sheets.{lineLength, offset, bit, asSheet, numberAt, worthPlace, worthsIn};
+ghost use Rattle.sheet.specs.Questions.{fault, askEach, between, malformed, tooLarge, grows, falls, wrong, firstWrong, linesFault};
+ghost use Rattle.sheet.specs.Answers.{refusal, sheetRead, worthsRead};
+ghost use Rattle.sheet.specs.Steps.{Is, Small, HeadRead, HeadAsked};
 
 // A field's number, or the faulty offset: that of the field's first byte.
 pub enum Field {
@@ -36,6 +34,7 @@ struct Head {
     lots: usize,
 }
 
+// A refusal, or an accepted sheet's buyers and lots.
 #[repr(C)]
 pub struct Read {
     pub number: u8,
@@ -44,6 +43,7 @@ pub struct Read {
     pub lots: u8,
 }
 
+// The same with its worths, sixteen to a buyer.
 #[repr(C)]
 pub struct Worths {
     pub number: u8,
@@ -102,7 +102,7 @@ fn scan_columns(sheet: &[u8], at: usize) -> Field
     }
 }
 
-// Reads the field at a column, whatever column it is.
+// "Reading one field gives the number or its fault, together with the next column." Any column may be asked.
 pub fn read_field(sheet: &[u8], at: usize) -> FieldRead
     ensures { λ r. ⌜ r ≡ fieldRead (now (sheet .entry)) at ⌝ }
 {
@@ -241,7 +241,7 @@ fn has(j: usize, s: usize) -> bool
 // Whether the bundle s is worth at least as much as each bundle with one lot fewer.
 fn grows_to(numbers: &[u32; 96], n: usize, i: usize, s: usize) -> bool
     requires { ⌜ (n ≤ 4) × (i < 6) × (s < 16) ⌝ }
-    ensures { λ r. ⌜ r ≡ every n 0 (λ j. bit j s ⊃ leb (worth (asSheet 0 n (now (numbers .entry))) i (s - 2 ^ j)) (worth (asSheet 0 n (now (numbers .entry))) i s)) ⌝ }
+    ensures { λ r. ⌜ r ≡ grows (asSheet 0 n (now (numbers .entry))) i s ⌝ }
 {
     let at = 16 * i + s;
     let w = numbers[at];
@@ -417,7 +417,7 @@ fn refused(number: u8, place: u32) -> Worths
     }
 }
 
-// Reads a sheet whole: its buyers, lots and worths, or the fault that refuses it.
+// Asks questions 1 to 8: a refusal's number and place, or the buyers, lots and worths of an accepted sheet.
 pub fn read_worths(sheet: &[u8]) -> Worths
     ensures { λ r. ⌜ r ≡ worthsRead (now (sheet .entry)) ⌝ }
 {
@@ -441,7 +441,7 @@ pub fn read_worths(sheet: &[u8]) -> Worths
     }
 }
 
-// Reads a sheet: its buyers and lots, or the fault that refuses it.
+// Asks questions 1 to 8: a refusal's number and place, or the buyers and lots of an accepted sheet.
 pub fn read_sheet(sheet: &[u8]) -> Read
     ensures { λ r. ⌜ r ≡ sheetRead (now (sheet .entry)) ⌝ }
 {

@@ -1,7 +1,7 @@
 -- `sheet::read_worths` meets its contract.
 use native.Mathlib.Omega.{arith}
 use borrow.Author.Needs.{needs}
-use Rattle.sheet.specs.Answers.{Passed}
+use Rattle.sheet.specs.Steps.{Passed}
 use Rattle.sheet.proofs.Reading.{refused-head, refused-lines, small-worths, accepted-worths}
 use Rattle.sheet.proofs.read_worths.Statement.{statement}
 use Rattle.sheet.proofs.read_worths.Tie as tie
