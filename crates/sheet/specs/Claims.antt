@@ -8,7 +8,11 @@ use Prim.Native.Nat.{ℕ, suc, _+_, _-_, _*_, _^_, _≤_, _<_}
 use lib.ListN.{length, take, drop, getD}
 use Rattle.sheet.specs.declared.Field.the-variants.{Number, Faulty}
 use Rattle.sheet.specs.Fields.{fieldAt, columns}
-use Rattle.sheet.specs.Sheets.{lineLength, offset, bit, Sheet, sheetOf, worth}
+use Rattle.sheet.specs.Sheets.{bit, Sheet, sheetOf, worth}
+
+-- where place c of line i begins: six columns to a field, and a line end to a line
+abbrev pub startOf : ℕ → ℕ → ℕ → ℕ
+startOf n i c = 13 + (i * (6 * (2 ^ n - 1) + 1) + 6 * c)
 
 abbrev pub GoodField : List ℕ → ℕ → Type 0
 GoodField b at = (v : ℕ) × (fieldAt at b ≡ Number v)
@@ -24,8 +28,8 @@ questions b w =
     ∷ ((1 ≤ w .buyers) × (w .buyers ≤ 6))
     ∷ ((1 ≤ w .lots) × (w .lots ≤ 4))
     ∷ (length b ≡ 13 + w .buyers * (6 * (2 ^ w .lots - 1) + 1))
-    ∷ (((i c : ℕ) → i < w .buyers → suc c < 2 ^ w .lots → GoodField b (offset (w .lots) i c))
-    × ((i : ℕ) → i < w .buyers → getD b (offset (w .lots) i (2 ^ w .lots - 1)) 0 ≡ 10))
+    ∷ (((i c : ℕ) → i < w .buyers → suc c < 2 ^ w .lots → GoodField b (startOf (w .lots) i c))
+    × ((i : ℕ) → i < w .buyers → getD b (startOf (w .lots) i (2 ^ w .lots - 1)) 0 ≡ 10))
     ∷ ((i s : ℕ) → i < w .buyers → s < 2 ^ w .lots → worth w i s ≤ 9999)
     ∷ ((i s j : ℕ) → i < w .buyers → s < 2 ^ w .lots → j < w .lots → bit j s ≡ true → s ≢ 2 ^ j → worth w i (s - 2 ^ j) ≤ worth w i s)
     ∷ []
@@ -37,8 +41,8 @@ Question b k = getD (questions b (sheetOf b)) k (Unit {0})
 module _ (w : Sheet) (i c : ℕ) where
   abbrev pub Malformed : List ℕ → Type 0
   Malformed b =
-      ((suc c < 2 ^ w .lots) × (fieldAt (offset (w .lots) i c) b ≡ Faulty (offset (w .lots) i c)))
-      ⊎ ((suc c ≡ 2 ^ w .lots) × (getD b (offset (w .lots) i c) 0 ≢ 10))
+      ((suc c < 2 ^ w .lots) × (fieldAt (startOf (w .lots) i c) b ≡ Faulty (startOf (w .lots) i c)))
+      ⊎ ((suc c ≡ 2 ^ w .lots) × (getD b (startOf (w .lots) i c) 0 ≢ 10))
 
   abbrev pub TooLarge : Type 0
   TooLarge = (suc c < 2 ^ w .lots) × (9999 < worth w i (suc c))
@@ -51,7 +55,7 @@ pub record WrongAt (w : Sheet) (T : ℕ → ℕ → Type 0) (p : ℕ) : Type 0 w
   pub line : ℕ
   pub place : ℕ
   pub below : (line < w .buyers) × (place < 2 ^ w .lots)
-  pub offset-is : p ≡ offset (w .lots) line place
+  pub offset-is : p ≡ startOf (w .lots) line place
   pub is-wrong : T line place
 
 pub record LeastPlace (w : Sheet) (T : ℕ → ℕ → Type 0) (p : ℕ) : Type 0 where
@@ -72,9 +76,9 @@ pub record Shape (w : Sheet) : Type 0 where
 
 -- and its bytes: the first line, and each buyer's line, in the columns in which their numbers are written
 pub record Written (b : List ℕ) (w : Sheet) : Type 0 where
-  pub long : length b ≡ 13 + w .buyers * lineLength (w .lots)
+  pub long : length b ≡ 13 + w .buyers * (6 * (2 ^ w .lots - 1) + 1)
   pub buyers : take 6 b ≡ columns 6 (w .buyers)
   pub lots : take 6 (drop 6 b) ≡ columns 6 (w .lots)
   pub head-end : getD b 12 0 ≡ 10
-  pub worths : (i c : ℕ) → i < w .buyers → suc c < 2 ^ w .lots → take 6 (drop (offset (w .lots) i c) b) ≡ columns 6 (worth w i (suc c))
-  pub ends : (i : ℕ) → i < w .buyers → getD b (offset (w .lots) i (2 ^ w .lots - 1)) 0 ≡ 10
+  pub worths : (i c : ℕ) → i < w .buyers → suc c < 2 ^ w .lots → take 6 (drop (startOf (w .lots) i c) b) ≡ columns 6 (worth w i (suc c))
+  pub ends : (i : ℕ) → i < w .buyers → getD b (startOf (w .lots) i (2 ^ w .lots - 1)) 0 ≡ 10
