@@ -50,12 +50,30 @@ impl Generator {
     /// A sheet in which no bundle is worth less than a part of it. A buyer's bundles exceed their
     /// parts by less than a step, so that ties, small worths and the greatest one all occur.
     pub fn monotone(&mut self, buyers: usize, lots: usize) -> Sheet {
+        let steps = [1, 2, 10, 100, 1_000, 5_000, 10_000];
+        self.stepwise(buyers, lots, GREATEST_WORTH, &steps)
+    }
+
+    /// As `monotone`, with worths up to a top and steps that fit it.
+    pub fn monotone_up_to(&mut self, buyers: usize, lots: usize, top: u16) -> Sheet {
+        let most = usize::from(top);
+        self.stepwise(buyers, lots, top, &[2, 2 + most / 4, 1 + most])
+    }
+
+    /// A sheet of the greatest size with worths up to the greatest, whose sale takes some 30,000
+    /// rounds.
+    pub fn full(&mut self) -> Sheet {
+        self.stepwise(MOST_BUYERS, MOST_LOTS, GREATEST_WORTH, &[2_500, 10_000])
+    }
+
+    /// A monotone sheet with worths up to a top, each buyer's step picked out of those listed.
+    fn stepwise(&mut self, buyers: usize, lots: usize, top: u16, steps: &[usize]) -> Sheet {
         let mut worths = Table::default();
         for row in &mut worths[..buyers] {
-            let step = self.pick(&[1, 2, 10, 100, 1_000, 5_000, 10_000]);
+            let step = self.pick(steps);
             for bundle in 1..=bundles(lots) {
                 let least = parts(bundle).map(|part| row[part]).max().unwrap_or(0);
-                row[bundle] = GREATEST_WORTH.min(least + self.below(step) as u16);
+                row[bundle] = top.min(least + self.below(step) as u16);
             }
         }
         Sheet {

@@ -2,9 +2,11 @@
 
 #![deny(unsafe_code)]
 
+pub mod command;
 pub mod generator;
 #[allow(unsafe_code)]
 pub mod library;
 pub mod reckoning;
+pub mod sales;
 pub mod sheets;
 pub mod tally;

@@ -33,13 +33,42 @@ pub struct Worths {
     pub worths: [u16; 96],
 }
 
-// SAFETY: a slice crosses as pointer and length, an answer as the `repr(C)` struct above. The
-// entries are proved to answer every sheet and column, reading the lent bytes alone.
+/// A refusal's number and place, or the demand set, as the sum of 2^S over its bundles S, and
+/// whether the buyer is keen.
+#[repr(C)]
+#[derive(Clone, Debug, PartialEq, Eq)]
+pub struct Demand {
+    pub number: u8,
+    pub place: u32,
+    pub bundles: u16,
+    pub keen: bool,
+}
+
+/// A refusal's number and place, or a settled sale. Prices stand as worths do in `Worths`.
+#[repr(C)]
+#[derive(Clone, Debug, PartialEq, Eq)]
+pub struct Sale {
+    pub number: u8,
+    pub place: u32,
+    pub buyers: u8,
+    pub lots: u8,
+    pub rounds: u32,
+    pub prices: [u16; 96],
+    pub owners: [u8; 4],
+    pub discounts: [u32; 6],
+    pub payments: [u32; 6],
+}
+
+// SAFETY: a slice crosses as pointer and length, an array as a pointer, an answer as the `repr(C)`
+// struct above. The entries are proved to answer every sheet, column, buyer and record, reading
+// what is lent alone and writing in the lent record alone.
 #[allow(improper_ctypes)]
 unsafe extern "C" {
     safe fn hokewhuni_read_sheet(sheet: &[u8]) -> Read;
     safe fn hokewhuni_read_field(sheet: &[u8], at: usize) -> FieldAnswer;
     safe fn hokewhuni_read_worths(sheet: &[u8]) -> Worths;
+    safe fn hokewhuni_buyer_demand(sheet: &[u8], buyer: u32, prices: &[u16; 96]) -> Demand;
+    safe fn hokewhuni_run_sale(sheet: &[u8], record: &mut [u8]) -> Sale;
 }
 
 /// The library's answer to questions 1 to 8.
@@ -55,4 +84,14 @@ pub fn read_field(sheet: &[u8], at: usize) -> FieldAnswer {
 /// The library's answer to questions 1 to 8 with the worths.
 pub fn read_worths(sheet: &[u8]) -> Worths {
     hokewhuni_read_worths(sheet)
+}
+
+/// The library's answer of what a buyer demands at prices brought from outside, any prices.
+pub fn buyer_demand(sheet: &[u8], buyer: u32, prices: &[u16; 96]) -> Demand {
+    hokewhuni_buyer_demand(sheet, buyer, prices)
+}
+
+/// The library's sale of a sheet, its rounds written in the record.
+pub fn run_sale(sheet: &[u8], record: &mut [u8]) -> Sale {
+    hokewhuni_run_sale(sheet, record)
 }

@@ -6,6 +6,7 @@ use std::env;
 use std::process::ExitCode;
 
 use comparison::generator::Generator;
+use comparison::sales;
 use comparison::sheets;
 use comparison::tally::Tally;
 
@@ -20,6 +21,7 @@ fn main() -> ExitCode {
     let mut tally = Tally::new(seed);
     let mut generator = Generator::new(seed);
     sheets::compare(&mut tally, &mut generator);
+    sales::compare(&mut tally, &mut generator);
     println!("{} passed, {} failed", tally.passed(), tally.failed());
     match tally.failed() {
         0 => ExitCode::SUCCESS,

@@ -1,7 +1,10 @@
 // What crosses the C boundary: slices as a pointer and a length, structs by value, no enum.
 ghost use mathlib.Core.Path.{_≡_};
 ghost use Rattle.sheet.specs.Answers.{sheetRead, worthsRead};
+ghost use Rattle.sale.specs.Answers.{demandAnswer, SaleSays};
 ghost use Rattle.boundary.specs.Boundary.{fieldAnswer};
+use sale::Demand;
+use sale::Sale;
 use sheet::Field;
 use sheet::Read;
 use sheet::Worths;
@@ -46,4 +49,19 @@ pub extern "C" fn hokewhuni_read_worths(sheet: &[u8]) -> Worths
     ensures { λ r. ⌜ r ≡ worthsRead (now (sheet .entry)) ⌝ }
 {
     sheet::read_worths(sheet)
+}
+
+// An array cannot cross by value, so the prices are lent.
+#[no_mangle]
+pub extern "C" fn hokewhuni_buyer_demand(sheet: &[u8], buyer: u32, prices: &[u16; 96]) -> Demand
+    ensures { λ r. ⌜ r ≡ demandAnswer (now (sheet .entry)) buyer (now (prices .entry)) ⌝ }
+{
+    sale::buyer_demand(sheet, buyer, *prices)
+}
+
+#[no_mangle]
+pub extern "C" fn hokewhuni_run_sale(sheet: &[u8], log: &mut [u8]) -> Sale
+    ensures { λ r. ⌜ SaleSays (now (sheet .entry)) (now (log .entry)) (now (log .exit)) r ⌝ }
+{
+    sale::run_sale(sheet, log)
 }

@@ -101,8 +101,8 @@ module _ (b : List ℕ) (long : 13 ≤ length b) (r s : FieldRead) (er : r ≡ f
             );
           }
 
-pub between-most : (k m : ℕ) → between k m ≡ true → m ≤ k
-between-most k m e = and-means (leb-means 1 m) (leb-means m k) .0 e .1
+pub between-ends : (k m : ℕ) → between k m ≡ true → (1 ≤ m) × (m ≤ k)
+between-ends k m e = and-means (leb-means 1 m) (leb-means m k) .0 e
 
 -- questions 1 to 5; r is the answer where one gets a no, and h the first line as it was read
 module _ (b : List ℕ) where
@@ -158,8 +158,8 @@ module _ (b : List ℕ) where
                 passed = λ _. record {
                   buyers = asked .passed z .1;
                   lots = asked .passed z .2;
-                  few-buyers = between-most 6 (h .buyers) q3;
-                  few-lots = between-most 4 (h .lots) q4;
+                  few-buyers = between-ends 6 (h .buyers) q3 .1;
+                  few-lots = between-ends 4 (h .lots) q4 .1;
                   rest =
                       rw (
                         le-leb 13 (length b) long,

@@ -64,3 +64,26 @@ module _ (b : List ℕ) where
 pub read-only : (b : List ℕ) (r : Worths) → r ≡ worthsRead b → record { number = r .number; place = r .place; buyers = r .buyers; lots = r .lots } ≡ sheetRead b
 unfolding sheetRead
 read-only b r e = ap (λ (x : Worths). record { number = x .number; place = x .place; buyers = x .buyers; lots = x .lots }) e
+
+-- what an answer of `read_worths` says, to its callers
+pub record Accepted (b : List ℕ) (r : Worths) : Type 0 where
+  pub none : sheetFault b .number ≡ 0
+  pub buyers : r .buyers ≡ sheetOf b .buyers
+  pub lots : r .lots ≡ sheetOf b .lots
+  pub worths : r .worths ≡ sheetOf b .worths
+
+pub read-refused : (b : List ℕ) (r : Worths) → r ≡ worthsRead b → fault (r .number) (r .place) ≡ sheetFault b
+unfolding worthsRead worthsBy
+read-refused b r e = ap (λ (x : Worths). fault (x .number) (x .place)) e
+
+pub read-accepted : (b : List ℕ) (r : Worths) → r ≡ worthsRead b → r .number ≡ 0 → Accepted b r
+unfolding worthsRead worthsBy
+read-accepted b r e z =
+    let none : sheetFault b .number ≡ 0 = ap (λ (x : Worths). x .number) (sym e) ∙ z in
+    let test = eq-eqb (sheetFault b .number) 0 none in
+    record {
+      none = none;
+      buyers = ap (λ (x : Worths). x .buyers) e ∙ rw test;
+      lots = ap (λ (x : Worths). x .lots) e ∙ rw test;
+      worths = ap (λ (x : Worths). x .worths) e ∙ rw test;
+    }

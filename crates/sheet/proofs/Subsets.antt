@@ -11,7 +11,7 @@ use borrow.Author.Tests.{eqb-true, eqb-false, eq-eqb}
 use Rattle.theory.proofs.Tests.{by-test}
 use Rattle.sheet.specs.Sheets.{bit}
 
-bit-half : (j x : ℕ) → bit (suc j) x ≡ bit j (x / 2)
+pub bit-half : (j x : ℕ) → bit (suc j) x ≡ bit j (x / 2)
 bit-half j x = rw (pow-succ', ← div-div-eq-div-mul)
 
 pub bit-le : (j x : ℕ) → bit j x ≡ true → 2 ^ j ≤ x

@@ -358,7 +358,8 @@ fn read_head(sheet: &[u8]) -> Head
     }
 }
 
-fn is_between(k: usize, m: usize) -> bool
+// Whether a number is 1 to k.
+pub fn is_between(k: usize, m: usize) -> bool
     ensures { λ r. ⌜ r ≡ between k m ⌝ }
 {
     if m < 1 {

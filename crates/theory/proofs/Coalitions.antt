@@ -9,14 +9,14 @@ use Prim.Native.Nat.{ℕ, _+_, _-_, _≤_, _<_}
 use native.Mathlib.Omega.{arith}
 use lib.Dec.{eqb, leb}
 use borrow.Author.Tests.{not-false, eqb-true, eq-eqb}
-use Rattle.theory.specs.Sums.{when}
+use Rattle.theory.specs.Sums.{when, sum, Among}
 use Rattle.theory.specs.Lists.{_∈_, most, upTo}
 use Rattle.theory.specs.Tests.{_⊃_}
 use Rattle.theory.specs.Markets.{Market, Table, Bidder, sumOf, total, Fits, only, asks}
 use Rattle.theory.specs.Rounds.{choices}
 use Rattle.theory.specs.Auction.{Economy, everyone, supplied, Numbered, own, Auction, Ready, Proper, Modest, chosen, round, rounds}
-use Rattle.theory.specs.Coalitions.{holder, HeldBy, heldBy, worthOf, Part, Holders, Values, payoffOf, inside, covers, gain, revenue, suppliedBy, lowestBy}
-use Rattle.theory.proofs.Tests.{by-test, fails, Means, same-test, itself, and-means, not-means, or-means, means-via, imp-means, every-means, some-means, every-same, some-same, least-same, eqb-means, leb-means}
+use Rattle.theory.specs.Coalitions.{holder, HeldBy, heldBy, worthOf, Part, Holders, Values, Roster, rosterOf, payoffOf, inside, covers, gain, revenue, suppliedBy, lowestBy}
+use Rattle.theory.proofs.Tests.{by-test, fails, Means, same-test, itself, and-means, not-means, or-means, means-via, imp-means, every-means, some-means, every-same, some-same, some-map, least-same, eqb-means, leb-means}
 use Rattle.theory.proofs.Sums.{sum-mono, sum-same, sum-add, sum-tight, sum-part}
 use Rattle.theory.proofs.Lists.{most-upper, most-is, most-same, most-reached, upTo-in, upTo-from}
 use Rattle.theory.proofs.Ascent.{lower-sum}
@@ -74,9 +74,55 @@ module _ {A : Type 0} (M : Market A) (v : Table) (free : (i : ℕ) → Bidder M 
             (λ p. rw (p, holds-none M a i p) (omega (arith, free i r))))),
       )
 
+-- over a roster
+module _ (R : Roster) (shift : ℕ) (value : ℕ → ℕ) (π : ℕ → ℕ) where
+  module _ (wide : sum (R .many) (R .low) π ≤ shift) where
+    payoff-wide : (n : ℕ) → payoffOf R π n ≤ shift
+    payoff-wide n =
+        omega (
+          arith,
+          sum-mono (R .many) (R .low) (only (R .member n) π) π
+              (λ i r. by-test (R .member n i) (λ p. rw p (omega arith)) (λ p. rw p (omega arith))),
+        )
+
+    -- nothing is cut off in a gain
+    pub gain-exact : (n : ℕ) → gain R shift value π n + payoffOf R π n ≡ shift + value n
+    gain-exact n = omega (arith, payoff-wide n)
+
+  -- payoffs that are the same for all bidders
+  module _ (ρ : ℕ → ℕ) (same : (i : ℕ) → Among (R .many) (R .low) i → π i ≡ ρ i) where
+    gain-same : (n : ℕ) → gain R shift value π n ≡ gain R shift value ρ n
+    gain-same n =
+        ap (λ p. shift + value n - p)
+        (sum-same (R .many) (R .low) (only (R .member n) π) (only (R .member n) ρ)
+        (λ i r. ap (when (R .member n i)) (same i r)))
+
+    revenue-same : (present : ℕ → Bool) → revenue R shift value π present ≡ revenue R shift value ρ present
+    revenue-same present =
+        most-same
+        (λ n. when (inside R present n) (gain R shift value π n))
+        (λ n. when (inside R present n) (gain R shift value ρ n))
+        (upTo (R .sets) 0) (λ n _. ap (when (inside R present n)) (gain-same n))
+
+    supplied-by-same : (n : ℕ) (present : ℕ → Bool) →
+        suppliedBy R shift value π n present ≡ suppliedBy R shift value ρ n present
+    supplied-by-same n present = some-same _ _ (upTo (R .sets) 0) (λ k _. rw (gain-same k, revenue-same present))
+
+    pub lowest-same : lowestBy R shift value π ≡ lowestBy R shift value ρ
+    lowest-same =
+        least-same (R .sets) 0 _ _ (λ n _. rw (
+          every-same (R .many) (R .low)
+              (λ i. R .member n i ⊃ leb 1 (π i)) (λ i. R .member n i ⊃ leb 1 (ρ i)) (λ i r. rw (same i r)),
+          some-same (λ p. not (suppliedBy R shift value π n p)) (λ p. not (suppliedBy R shift value ρ n p))
+              (R .presents) (λ p _. ap not (supplied-by-same n p)),
+        ))
+
 module _ {A : Type 0} (X : Auction A) where
   abbrev M : Market A
   M = X .market
+
+  abbrev R : Roster
+  R = rosterOf X
 
   -- the greatest totals of the allocations that pass a test
   module _ (v : Table) {al : List A} {a : A} (m : a ∈ al) where
@@ -128,46 +174,6 @@ module _ {A : Type 0} (X : Auction A) where
             ];
       }
 
-  module _ (shift : ℕ) (value : ℕ → ℕ) (π : ℕ → ℕ) where
-    module _ (wide : sumOf M π ≤ shift) where
-      payoff-wide : (n : ℕ) → payoffOf X π n ≤ shift
-      payoff-wide n =
-          omega (
-            arith,
-            sum-mono (M .many) (M .low) (only (X .member n) π) π
-                (λ i r. by-test (X .member n i) (λ p. rw p (omega arith)) (λ p. rw p (omega arith))),
-          )
-
-      -- nothing is cut off in a gain
-      pub gain-exact : (n : ℕ) → gain X shift value π n + payoffOf X π n ≡ shift + value n
-      gain-exact n = omega (arith, payoff-wide n)
-
-    -- payoffs that are the same for all bidders
-    module _ (ρ : ℕ → ℕ) (same : (i : ℕ) → Bidder M i → π i ≡ ρ i) where
-      gain-same : (n : ℕ) → gain X shift value π n ≡ gain X shift value ρ n
-      gain-same n =
-          ap (λ p. shift + value n - p)
-          (sum-same (M .many) (M .low) (only (X .member n) π) (only (X .member n) ρ)
-          (λ i r. ap (when (X .member n i)) (same i r)))
-
-      revenue-same : (e : Economy A) → revenue X shift value π e ≡ revenue X shift value ρ e
-      revenue-same e =
-          most-same
-          (λ n. when (inside X e n) (gain X shift value π n)) (λ n. when (inside X e n) (gain X shift value ρ n))
-          (upTo (X .sets) 0) (λ n _. ap (when (inside X e n)) (gain-same n))
-
-      supplied-by-same : (n : ℕ) (e : Economy A) → suppliedBy X shift value π n e ≡ suppliedBy X shift value ρ n e
-      supplied-by-same n e = some-same _ _ (upTo (X .sets) 0) (λ k _. rw (gain-same k, revenue-same e))
-
-      pub lowest-same : lowestBy X shift value π ≡ lowestBy X shift value ρ
-      lowest-same =
-          least-same (X .sets) 0 _ _ (λ n _. rw (
-            every-same (M .many) (M .low)
-                (λ i. X .member n i ⊃ leb 1 (π i)) (λ i. X .member n i ⊃ leb 1 (ρ i)) (λ i r. rw (same i r)),
-            some-same (λ e. not (suppliedBy X shift value π n e)) (λ e. not (suppliedBy X shift value ρ n e))
-                (X .economies) (λ e _. ap not (supplied-by-same n e)),
-          ))
-
   module _
       (ready : Ready X) (v : Table) (proper : Proper X v)
       (al : List A) (value : ℕ → ℕ) (values : Values X v al value)
@@ -177,27 +183,27 @@ module _ {A : Type 0} (X : Auction A) where
     takings = total M (asks v π)
 
     abbrev gained : ℕ → ℕ
-    gained n = gain X shift value π n
+    gained n = gain R shift value π n
 
-    exact : (n : ℕ) → gained n + payoffOf X π n ≡ shift + value n
-    exact = gain-exact shift value π wide
+    exact : (n : ℕ) → gained n + payoffOf R π n ≡ shift + value n
+    exact = gain-exact R shift value π wide
 
     module _ (e : Economy A) (m : e ∈ X .economies) where
       abbrev greatest : ℕ
       greatest = most takings (e .lists)
 
       inside-means : (n : ℕ) →
-          Means (inside X e n) ((i : ℕ) → Bidder M i → X .member n i ≡ true → e .present i ≡ true)
+          Means (inside R (e .present) n) ((i : ℕ) → Bidder M i → X .member n i ≡ true → e .present i ≡ true)
       inside-means n =
           every-means (M .many) (M .low) (λ i r. imp-means (itself (X .member n i)) (itself (e .present i)))
 
-      inside-lists : (n : ℕ) → inside X e n ≡ true → (a : A) → a ∈ al → HeldBy M (X .member n) a → a ∈ e .lists
+      inside-lists : (n : ℕ) → inside R (e .present) n ≡ true → (a : A) → a ∈ al → HeldBy M (X .member n) a → a ∈ e .lists
       inside-lists n h a k held =
           part e m .closed a k (λ i r p.
           held i r (by-test (X .member n i) (λ w. fails (inside-means n .0 h i r w) p) (λ w. w)))
 
       -- no set within the economy gains more than the greatest takings
-      gain-bound : (n : ℕ) → n < X .sets → inside X e n ≡ true → gained n ≤ shift + greatest
+      gain-bound : (n : ℕ) → n < X .sets → inside R (e .present) n ≡ true → gained n ≤ shift + greatest
       gain-bound n l h =
           elim (values .reached n l) [
             | inl z ↦ omega (arith, exact n)
@@ -212,7 +218,7 @@ module _ {A : Type 0} (X : Auction A) where
 
       -- the holders of a fitting allocation do
       module _ (a : A) (k : a ∈ e .lists) (fits : Fits M v (asks v π) π (e .lists) a) where
-        holders-inside : (n : ℕ) → Holders X a n → inside X e n ≡ true
+        holders-inside : (n : ℕ) → Holders X a n → inside R (e .present) n ≡ true
         holders-inside n same =
             inside-means n .1 (λ i r p.
             by-test (e .present i)
@@ -226,12 +232,12 @@ module _ {A : Type 0} (X : Auction A) where
             let sums = holders-total M v (proper .free) π (e .lists) a fits (X .member n) same in
             (n, l, same, omega (arith, exact n))
 
-      pub revenue-is : revenue X shift value π e ≡ shift + greatest
+      pub revenue-is : revenue R shift value π (e .present) ≡ shift + greatest
       revenue-is =
           let (a, k, f) = sale-fits X ready v proper π modest e m in
           let (n, l, same, g) = holders-gain a k f in
-          most-is (λ n. when (inside X e n) (gained n)) (shift + greatest) {a = n} {l = upTo (X .sets) 0}
-          (λ n q. by-test (inside X e n)
+          most-is (λ n. when (inside R (e .present) n) (gained n)) (shift + greatest) {a = n} {l = upTo (X .sets) 0}
+          (λ n q. by-test (inside R (e .present) n)
           (λ p. rw p (gain-bound n (omega (arith, upTo-from (X .sets) 0 q)) p))
           (λ p. rw p (omega arith)))
           (upTo-in (X .sets) 0 (omega arith)) (rw (holders-inside a k f n same) g)
@@ -247,18 +253,18 @@ module _ {A : Type 0} (X : Auction A) where
         abbrev Has : ℕ → Type 0
         Has k = (i : ℕ) → Bidder M i → Present i → X .member k i ≡ true
 
-        covers-means : (k : ℕ) → Means (covers X e n k) (Has k)
+        covers-means : (k : ℕ) → Means (covers R (e .present) n k) (Has k)
         covers-means k = every-means (M .many) (M .low) (λ i r. imp-means (present-means i) (itself (X .member k i)))
 
         abbrev Gaining : Type 0
         Gaining = (k : ℕ) × (k ∈ upTo (X .sets) 0) ×
-            ((inside X e k ≡ true) × (Has k × (gained k ≡ revenue X shift value π e)))
+            ((inside R (e .present) k ≡ true) × (Has k × (gained k ≡ revenue R shift value π (e .present))))
 
-        supplied-by-means : Means (suppliedBy X shift value π n e) Gaining
+        supplied-by-means : Means (suppliedBy R shift value π n (e .present)) Gaining
         supplied-by-means =
             some-means (upTo (X .sets) 0) (λ k l.
-            and-means (itself (inside X e k))
-            (and-means (covers-means k) (eqb-means (gained k) (revenue X shift value π e))))
+            and-means (itself (inside R (e .present) k))
+            (and-means (covers-means k) (eqb-means (gained k) (revenue R shift value π (e .present)))))
 
         abbrev Fitting : Type 0
         Fitting = (a : A) × (a ∈ e .lists) ×
@@ -308,14 +314,14 @@ module _ {A : Type 0} (X : Auction A) where
                   (a, q, (fits, λ i r w. omega (arith, rw (has i r w) at (tight i r))))
             ]
 
-        pub supplied-by : supplied M (own v π) (X .member n) e ≡ suppliedBy X shift value π n e
+        pub supplied-by : supplied M (own v π) (X .member n) e ≡ suppliedBy R shift value π n (e .present)
         supplied-by =
             same-test _ _
             (λ p. supplied-by-means .1 (by-holders (supplied-own .0 p)))
             (λ p. supplied-own .1 (by-value (supplied-by-means .0 p)))
 
     -- the lowest undersupplied set, from the values
-    pub lowest-by : chosen X (own v π) ≡ lowestBy X shift value π
+    pub lowest-by : chosen X (own v π) ≡ lowestBy R shift value π
     lowest-by =
         least-same (X .sets) 0 _ _ (λ n r.
         by-test (everyone M (λ i. X .member n i ⊃ leb 1 (π i)))
@@ -323,8 +329,9 @@ module _ {A : Type 0} (X : Auction A) where
         let keen =
         every-means (M .many) (M .low) (λ i r. imp-means (itself (X .member n i)) (leb-means 1 (π i))) .0 p in
         rw p
-        (some-same (λ e. not (supplied M (own v π) (X .member n) e)) (λ e. not (suppliedBy X shift value π n e))
-        (X .economies) (λ e m. ap not (supplied-by e m n keen))))
+        (some-same (λ e. not (supplied M (own v π) (X .member n) e)) (λ e. not (suppliedBy R shift value π n (e .present)))
+        (X .economies) (λ e m. ap not (supplied-by e m n keen))
+        ∙ sym (some-map (λ p. not (suppliedBy R shift value π n p)) (λ e. e .present) (X .economies))))
         (λ p. rw p))
 
   -- so the rounds follow from the values
@@ -336,11 +343,11 @@ module _ {A : Type 0} (X : Auction A) where
     Within π = Modest X v π × (sumOf M π ≤ shift)
 
     pub rounds-by : (π : ℕ → ℕ) → Modest X v π → sumOf M π ≤ shift → (f : ℕ) →
-        rounds X v π f ≡ choices (lowestBy X shift value) (round X) f π
+        rounds X v π f ≡ choices (lowestBy R shift value) (round X) f π
     rounds-by π modest wide f =
-        choices-same (λ π. chosen X (own v π)) (round X) (lowestBy X shift value) (round X) (λ σ τ. (σ ≡ τ) × Within σ)
+        choices-same (λ π. chosen X (own v π)) (round X) (lowestBy R shift value) (round X) (λ σ τ. (σ ≡ τ) × Within σ)
         (λ σ τ h.
-        lowest-by ready v proper al value values part σ (h .1 .0) shift (h .1 .1) ∙ ap (lowestBy X shift value) (h .0))
+        lowest-by ready v proper al value values part σ (h .1 .0) shift (h .1 .1) ∙ ap (lowestBy R shift value) (h .0))
         (λ σ τ x h c. (
           ap (round X x) (h .0),
           (

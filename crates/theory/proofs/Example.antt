@@ -12,7 +12,7 @@ use Rattle.theory.specs.Lists.{keep, tabulate}
 use Rattle.theory.specs.Rounds.{choices, after}
 use Rattle.theory.specs.Markets.{Market, Table, worthPay, discount, pricePay, asks}
 use Rattle.theory.specs.Auction.{whole, lacking, Quote, closing, direct, own, Auction, chosen, start, round, rounds}
-use Rattle.theory.specs.Coalitions.{worthOf, lowestBy}
+use Rattle.theory.specs.Coalitions.{worthOf, rosterOf, lowestBy}
 
 abbrev Owners : Type 0
 Owners = ℕ × ℕ
@@ -80,7 +80,7 @@ example-values : tabulate 8 0 (λ n. worthOf market worths all (auction .member 
 example-values = refl
 
 example-rounds-by :
-    choices (lowestBy auction 13 (λ n. getD values n 0)) (round auction) 13 (start auction worths) ≡ sets
+    choices (lowestBy (rosterOf auction) 13 (λ n. getD values n 0)) (round auction) 13 (start auction worths) ≡ sets
 example-rounds-by = refl
 
 -- a lot has a price that nobody would give: nothing fits, and the empty set, whose number is 0, is undersupplied

@@ -1,19 +1,20 @@
--- Loops that count up from 0: what a definition over a range still has to do from k on. Offers one law for each way
--- through a loop that looks for the first that passes (`least`), that tests all (`every`), and that fills a list place
--- by place (`Filled`, `tabulate`). Assumes nothing.
-use mathlib.Core.Path.{_≡_, sym, ap, _∙_}
+-- Loops over a range: what a definition over it still has to do from k on. Offers one law for each way through a loop
+-- that looks for the first that passes (`least`), that tests all (`every`), that takes in one number after another
+-- (`most`, `some`, `every`, and `sum` counting down), and that fills a list place by place (`Filled`, `tabulate`).
+-- Assumes nothing.
+use mathlib.Core.Path.{_≡_, refl, sym, ap, _∙_}
 use mathlib.Core.Logic.{⊎-elim}
-use mathlib.Core.Bool.{Bool, true, false, _&&_}
+use mathlib.Core.Bool.{Bool, true, false, _&&_, _||_}
 use mathlib.Core.List.{List}
-use Prim.Native.Nat.{ℕ, suc, _+_, _-_, _<_, _≤_}
+use Prim.Native.Nat.{ℕ, suc, max, _+_, _-_, _<_, _≤_}
 use native.Mathlib.Nat.{zero-add, eq-or-lt-of-le}
 use native.Mathlib.Numerals.{add-one}
 use native.Mathlib.Omega.{arith}
 use lib.ListN.{length, getD, set, length-set}
 use lib.Seq.{getD-set-same, getD-set-other, ext-getD}
-use Rattle.theory.specs.Sums.{pick}
-use Rattle.theory.specs.Lists.{tabulate}
-use Rattle.theory.specs.Tests.{every, least}
+use Rattle.theory.specs.Sums.{pick, sum}
+use Rattle.theory.specs.Lists.{most, tabulate, upTo}
+use Rattle.theory.specs.Tests.{every, some, least}
 use Rattle.theory.proofs.Lists.{tabulate-at, tabulate-length}
 
 -- T is what the whole loop answers
@@ -44,6 +45,55 @@ module _ (t : ℕ → Bool) (n k : ℕ) (T : Bool) where
 
   pub every-done : n ≤ k → every (n - k) k t ≡ T → true ≡ T
   every-done h inv = let e : n - k ≡ 0 = omega arith in rw e at inv
+
+-- what a loop has taken in is x, and with number k it is y
+module _ (n k : ℕ) where
+  module _ (h : k < n) where
+    next : n - k ≡ suc (n - suc k)
+    next = omega arith
+
+    pub most-more : (f : ℕ → ℕ) (x y T : ℕ) → max x (most f (upTo (n - k) k)) ≡ T → y ≡ max x (f k) →
+        max y (most f (upTo (n - (k + 1)) (k + 1))) ≡ T
+    most-more f x y T inv e = rw (add-one k) (omega (arith, rw next at inv))
+
+    pub some-more : (t : ℕ → Bool) (x y T : Bool) → (x || some t (upTo (n - k) k)) ≡ T → y ≡ (x || t k) →
+        (y || some t (upTo (n - (k + 1)) (k + 1))) ≡ T
+    some-more t x y T inv e = rw (add-one k, e) (or-assoc x (t k) (some t (upTo (n - suc k) (suc k))) ∙ rw next at inv)
+      where
+        or-assoc : (x y z : Bool) → ((x || y) || z) ≡ (x || (y || z))
+        or-assoc true y z = refl
+        or-assoc false y z = refl
+
+    pub all-more : (t : ℕ → Bool) (x y T : Bool) → (x && every (n - k) k t) ≡ T → y ≡ (x && t k) →
+        (y && every (n - (k + 1)) (k + 1) t) ≡ T
+    all-more t x y T inv e = rw (add-one k, e) (and-assoc x (t k) (every (n - suc k) (suc k) t) ∙ rw next at inv)
+      where
+        and-assoc : (x y z : Bool) → ((x && y) && z) ≡ (x && (y && z))
+        and-assoc true y z = refl
+        and-assoc false y z = refl
+
+  module _ (h : n ≤ k) where
+    none : n - k ≡ 0
+    none = omega arith
+
+    pub most-done : (f : ℕ → ℕ) (x T : ℕ) → max x (most f (upTo (n - k) k)) ≡ T → x ≡ T
+    most-done f x T inv = omega (arith, rw none at inv)
+
+    pub some-done : (t : ℕ → Bool) (x T : Bool) → (x || some t (upTo (n - k) k)) ≡ T → x ≡ T
+    some-done t true T inv = inv
+    some-done t false T inv = rw none at inv
+
+    pub all-done : (t : ℕ → Bool) (x T : Bool) → (x && every (n - k) k t) ≡ T → x ≡ T
+    all-done t true T inv = rw none at inv
+    all-done t false T inv = inv
+
+-- a sum over 1 to n, of which the numbers above k are taken in
+pub sum-down : (n k x : ℕ) (f : ℕ → ℕ) → 1 ≤ k → k ≤ n → x ≡ sum (n - k) (suc k) f →
+    x + f k ≡ sum (n - (k - 1)) (suc (k - 1)) f
+sum-down n k x f lo hi e =
+    let a : n - (k - 1) ≡ suc (n - k) = omega arith in
+    let b : suc (k - 1) ≡ k = omega arith in
+    rw (a, b, e) (omega arith)
 
 -- a list of n places, the first k of which hold the values of f
 pub record Filled (f : ℕ → ℕ) (n k : ℕ) (l : List ℕ) : Type 0 where

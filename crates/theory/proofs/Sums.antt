@@ -2,7 +2,7 @@
 -- at one place (`sum-but`, `sum-swap`).
 use mathlib.Core.Path.{_≡_, refl, sym, ap}
 use mathlib.Core.Logic.{_≢_}
-use Prim.Native.Nat.{ℕ, zero, suc, _+_, _≤_}
+use Prim.Native.Nat.{ℕ, zero, suc, _+_, _*_, _≤_}
 use native.Mathlib.Omega.{arith}
 use native.Mathlib.Decide.{ℕ-discrete}
 use lib.Dec.{eqb}
@@ -28,6 +28,10 @@ sum-add (suc k) s f g = omega (arith, sum-add k (suc s) f g)
 pub sum-zero : (k s : ℕ) → sum k s (λ _. 0) ≡ 0
 sum-zero zero s = refl
 sum-zero (suc k) s = omega (arith, sum-zero k (suc s))
+
+pub sum-const : (k s c : ℕ) → sum k s (λ _. c) ≡ c * k
+sum-const zero s c = omega arith
+sum-const (suc k) s c = omega (arith, sum-const k (suc s) c)
 
 -- where f is at most g at every place but i, so are their sums without that place
 pub sum-but : (k s : ℕ) (f g : ℕ → ℕ) (i : ℕ) → Among k s i →

@@ -3,7 +3,7 @@
 use mathlib.Core.Path.{_≡_, refl, sym, subst, _∙_}
 use mathlib.Core.Logic.{_↔_, _⊎_, inl, inr}
 use mathlib.Core.Bool.{Bool, true, false, not, _&&_, _||_, true≢false}
-use mathlib.Core.List.{List, [], _∷_, List·Memᴰ·head as here, List·Memᴰ·tail as there, List·Memᴰ·not-nil, List·Memᴰ·cases-cons}
+use mathlib.Core.List.{List, [], _∷_, map, List·Memᴰ·head as here, List·Memᴰ·tail as there, List·Memᴰ·not-nil, List·Memᴰ·cases-cons}
 use Prim.Native.Nat.{ℕ, zero, suc, _≤_}
 use native.Mathlib.Omega.{arith}
 use native.Mathlib.Decide.{ℕ-discrete}
@@ -93,6 +93,10 @@ every-same (suc k) s t u h = rw (h s (omega arith), every-same k (suc s) t u (λ
 pub some-same : {A : Type 0} (t u : A → Bool) (l : List A) → ((a : A) → a ∈ l → t a ≡ u a) → some t l ≡ some u l
 some-same t u [] h = refl
 some-same t u (a ∷ l) h = rw (h a (here refl), some-same t u l (λ b m. h b (there m)))
+
+pub some-map : {A B : Type 0} (t : B → Bool) (f : A → B) (l : List A) → some t (map f l) ≡ some (λ a. t (f a)) l
+some-map t f [] = refl
+some-map t f (a ∷ l) = rw (some-map t f l)
 
 pub least-none : (k s : ℕ) (t : ℕ → Bool) → least k s t ≡ 0 → (i : ℕ) → Among k s i → t i ≡ false
 least-none zero s t h i r = absurd (omega arith)

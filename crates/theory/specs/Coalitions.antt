@@ -1,16 +1,17 @@
 -- At a sale's own prices the rounds need one number for each set of bidders, a greatest total of what only they hold.
--- Offers `worthOf`, the record `Values` of such numbers, and `lowestBy`, the lowest undersupplied set by them.
+-- Offers `worthOf`, the record `Values` of such numbers, and `lowestBy`, the lowest undersupplied set by them, which asks
+-- no more of an auction than its `Roster`.
 -- Differences are kept `shift` higher, so that none is negative where the payoffs come to at most `shift`.
 use mathlib.Core.Path.{_≡_}
 use mathlib.Core.Logic.{_⊎_}
 use mathlib.Core.Bool.{Bool, false, not, _&&_, _||_}
-use mathlib.Core.List.{List}
+use mathlib.Core.List.{List, map}
 use Prim.Native.Nat.{ℕ, _+_, _-_, _≤_, _<_}
 use lib.Dec.{eqb, leb}
-use Rattle.theory.specs.Sums.{when}
+use Rattle.theory.specs.Sums.{when, sum}
 use Rattle.theory.specs.Lists.{_∈_, most, upTo}
-use Rattle.theory.specs.Tests.{_⊃_, some, least}
-use Rattle.theory.specs.Markets.{Market, Table, Bidder, total, sumOf, only}
+use Rattle.theory.specs.Tests.{_⊃_, every, some, least}
+use Rattle.theory.specs.Markets.{Market, Table, Bidder, total, only}
 use Rattle.theory.specs.Auction.{Economy, Auction, everyone}
 
 module _ {A : Type 0} (M : Market A) where
@@ -49,34 +50,55 @@ module _ {A : Type 0} (X : Auction A) where
         (value n ≡ 0) ⊎
         ((a : A) × (a ∈ al) × HeldBy (X .market) (X .member n) a × (value n ≤ total (X .market) v a))
 
+-- all that the rounds by values ask of an auction: who bids, the sets of bidders by their numbers, and who is present in
+-- each economy
+pub record Roster : Type 0 where
+  pub many : ℕ
+  pub low : ℕ
+  pub member : ℕ → ℕ → Bool
+  pub sets : ℕ
+  pub presents : List (ℕ → Bool)
+
+abbrev pub rosterOf : {A : Type 0} → Auction A → Roster
+rosterOf X =
+    record {
+      many = X .market .many;
+      low = X .market .low;
+      member = X .member;
+      sets = X .sets;
+      presents = map (λ e. e .present) (X .economies);
+    }
+
+module _ (R : Roster) where
   -- the payoffs of a set
   abbrev pub payoffOf : (ℕ → ℕ) → ℕ → ℕ
-  payoffOf π n = sumOf (X .market) (only (X .member n) π)
+  payoffOf π n = sum (R .many) (R .low) (only (R .member n) π)
 
   -- the set has none but bidders present
-  abbrev pub inside : Economy A → ℕ → Bool
-  inside e n = everyone (X .market) (λ i. X .member n i ⊃ e .present i)
+  abbrev pub inside : (ℕ → Bool) → ℕ → Bool
+  inside present n = every (R .many) (R .low) (λ i. R .member n i ⊃ present i)
 
   -- the set k has all members of the set n that are present
-  abbrev pub covers : Economy A → ℕ → ℕ → Bool
-  covers e n k = everyone (X .market) (λ i. (e .present i && X .member n i) ⊃ X .member k i)
+  abbrev pub covers : (ℕ → Bool) → ℕ → ℕ → Bool
+  covers present n k = every (R .many) (R .low) (λ i. (present i && R .member n i) ⊃ R .member k i)
 
   module _ (shift : ℕ) (value : ℕ → ℕ) (π : ℕ → ℕ) where
     -- what a set's value is above its payoffs
     abbrev pub gain : ℕ → ℕ
     gain n = shift + value n - payoffOf π n
 
-    -- the greatest gain of a set in the economy
-    abbrev pub revenue : Economy A → ℕ
-    revenue e = most (λ n. when (inside e n) (gain n)) (upTo (X .sets) 0)
+    -- the greatest gain of a set in an economy
+    abbrev pub revenue : (ℕ → Bool) → ℕ
+    revenue present = most (λ n. when (inside present n) (gain n)) (upTo (R .sets) 0)
 
     -- some set in the economy that has the members present gains it
-    abbrev pub suppliedBy : ℕ → Economy A → Bool
-    suppliedBy n e = some (λ k. inside e k && (covers e n k && eqb (gain k) (revenue e))) (upTo (X .sets) 0)
+    abbrev pub suppliedBy : ℕ → (ℕ → Bool) → Bool
+    suppliedBy n present =
+        some (λ k. inside present k && (covers present n k && eqb (gain k) (revenue present))) (upTo (R .sets) 0)
 
     -- 1 more than the lowest number of a set of keen bidders that is not supplied so, 0 if there is none
     abbrev pub lowestBy : ℕ
     lowestBy =
-        least (X .sets) 0 (λ n.
-        everyone (X .market) (λ i. X .member n i ⊃ leb 1 (π i))
-        && some (λ e. not (suppliedBy n e)) (X .economies))
+        least (R .sets) 0 (λ n.
+        every (R .many) (R .low) (λ i. R .member n i ⊃ leb 1 (π i))
+        && some (λ present. not (suppliedBy n present)) (R .presents))

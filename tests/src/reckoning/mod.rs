@@ -1,3 +1,7 @@
 //! Document 01 reckoned in plain Rust, without sight of the library.
 
+pub mod allocation;
+pub mod demand;
+pub mod round;
+pub mod sale;
 pub mod sheet;

@@ -192,6 +192,6 @@ pub fn place(lots: usize, buyer: usize, bundle: usize) -> usize {
 }
 
 /// "A refusal returns its number and place."
-fn refuse<T>(number: u8, place: usize) -> Result<T, Refusal> {
+pub fn refuse<T>(number: u8, place: usize) -> Result<T, Refusal> {
     Err(Refusal { number, place })
 }

@@ -31,9 +31,9 @@ const ACCEPTED: [(&str, usize, &[&[u16]]); 7] = [
 ];
 
 /// Refused sheets, with their number and place.
-const REFUSED: [(&str, u8, usize); 11] = [
+pub const REFUSED: [(&str, u8, usize); 11] = [
     // 12 bytes.
-    ("     1     1", 1, 0),
+    ("     2     2", 1, 0),
     // A sole good first line, 1 and 1.
     ("     1     1\n", 5, 0),
     // Two buyers, two lots, first line of worths 4, 0, 3.
@@ -88,7 +88,7 @@ fn longest(tally: &mut Tally) {
 }
 
 /// The sheet with these rows of worths, from bundle 1 on.
-fn sheet_of(lots: usize, rows: &[&[u16]]) -> Sheet {
+pub fn sheet_of(lots: usize, rows: &[&[u16]]) -> Sheet {
     let mut worths = Table::default();
     for (line, row) in worths.iter_mut().zip(rows) {
         line[1..=bundles(lots)].copy_from_slice(row);

@@ -4,7 +4,7 @@ use crate::generator::Generator;
 use crate::tally::Tally;
 
 mod bytes;
-mod document;
+pub mod document;
 mod faults;
 mod fields;
 mod lengths;

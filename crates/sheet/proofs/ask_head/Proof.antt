@@ -9,7 +9,7 @@ use borrow.Author.Needs.{needs}
 use borrow.Author.Tests.{not-true, not-false}
 use Rattle.sheet.specs.Questions.{between}
 use Rattle.sheet.specs.declared.Head.{Head}
-use Rattle.sheet.proofs.Asking.{between-most, short-sheet, bad-head, bad-buyers, bad-lots, bad-length, head-passes}
+use Rattle.sheet.proofs.Asking.{between-ends, short-sheet, bad-head, bad-buyers, bad-lots, bad-length, head-passes}
 use Rattle.sheet.proofs.Numbers.{product-small}
 use Rattle.sheet.proofs.ask_head.Statement.{statement}
 use Rattle.sheet.proofs.ask_head.Tie as tie
@@ -76,19 +76,19 @@ returns-4 c =
     (sym (c .before .before .is-between2 .ensures) ∙ not-true _ (c .before .if4 .taken))
 
 line-length-requires : tie.Need-line-length-requires
-line-length-requires c κs = between-most 4 _ (few-lots c)
+line-length-requires c κs = between-ends 4 _ (few-lots c) .1
 
 mul-if5 : tie.Need-mul-if5
 mul-if5 c =
     let e = c .before .before .before .before in
     let m = head (e .before .before .before .before) .buyers in
-    omega (arith, product-small m (c .before .line-length .result) 6 91 (between-most 6 m (few-buyers e)) (c .before .line-length .ensures .most))
+    omega (arith, product-small m (c .before .line-length .result) 6 91 (between-ends 6 m (few-buyers e) .1) (c .before .line-length .ensures .most))
 
 add-if5 : tie.Need-add-if5
 add-if5 c =
     let e = c .before .before .before .before in
     let m = head (e .before .before .before .before) .buyers in
-    omega (arith, product-small m (c .before .line-length .result) 6 91 (between-most 6 m (few-buyers e)) (c .before .line-length .ensures .most))
+    omega (arith, product-small m (c .before .line-length .result) 6 91 (between-ends 6 m (few-buyers e) .1) (c .before .line-length .ensures .most))
 
 turned-down-requires-4 : tie.Need-turned-down-requires-4
 turned-down-requires-4 c κs = search needs

@@ -1,0 +1,2 @@
+-- What buyers demand at prices given as a list.
+pub mod Demands

@@ -1,0 +1,96 @@
+-- Each set of bidders has a number, the sum of 2 ^ j over its bidders' seats j, and a proper subset has a lower one (`seats-ranked`). Offers the laws of
+-- `number` (`number-bit`, `number-below`, and `number-down` for loops), and that m buyers sit (`plain-seated`). Assumes nothing.
+use mathlib.Core.Path.{_≡_, sym, ap, _∙_}
+use mathlib.Core.Bool.{Bool, true, false, _&&_}
+use Prim.Native.Nat.{ℕ, zero, suc, _+_, _-_, _*_, _/_, _%_, _^_, _≤_, _<_}
+use native.Mathlib.Nat.{zero-add}
+use native.Mathlib.Omega.{arith}
+use native.Mathlib.Decide.{ℕ-discrete}
+use lib.Pow.{pow-mono}
+use borrow.Author.Tests.{eq-eqb, ne-eqb, eqb-true, lt-ltb, ltb-true}
+use Rattle.theory.specs.Sums.{when, Among}
+use Rattle.theory.specs.Markets.{Market}
+use Rattle.theory.specs.Auction.{Numbered, Ranked}
+use Rattle.theory.proofs.Tests.{by-test, fails, itself, and-means}
+use Rattle.sheet.proofs.Subsets.{bit-half}
+use Rattle.owners.specs.Owners.{bit, number}
+use Rattle.owners.specs.Prices.{Seats, Seated, plain, seatMember}
+
+pub number-below : (k s : ℕ) (t : ℕ → Bool) → number k s t < 2 ^ k
+unfolding number
+number-below zero s t = omega arith
+number-below (suc k) s t = by-test (t s) (λ e. rw e (omega (arith, number-below k (suc s) t))) (λ e. rw e (omega (arith, number-below k (suc s) t)))
+
+pub half-of : (b : Bool) (y : ℕ) → (when b 1 + 2 * y) / 2 ≡ y
+half-of true y = omega arith
+half-of false y = omega arith
+
+pub low-bit : (b : Bool) (y : ℕ) → bit 0 (when b 1 + 2 * y) ≡ b
+low-bit true y = eq-eqb ((1 + 2 * y) / 1 % 2) 1 (omega arith)
+low-bit false y = ne-eqb ((0 + 2 * y) / 1 % 2) 1 (λ q. omega arith)
+
+pub number-bit : (k s : ℕ) (t : ℕ → Bool) (j : ℕ) → j < k → bit j (number k s t) ≡ t (s + j)
+unfolding number
+number-bit zero s t j h = absurd (omega arith)
+number-bit (suc k) s t zero h = low-bit (t s) (number k (suc s) t) ∙ ap t (omega arith)
+number-bit (suc k) s t (suc j) h =
+    bit-half j (when (t s) 1 + 2 * number k (suc s) t) ∙ ap (bit j) (half-of (t s) (number k (suc s) t))
+    ∙ number-bit k (suc s) t j (omega arith) ∙ ap t (omega arith)
+
+pub number-small : (k s : ℕ) (t : ℕ → Bool) → k ≤ 6 → number k s t < 64
+number-small k s t h = omega (arith, number-below k s t, pow-mono {i = k} {j = 6} h)
+
+-- a number of some of 1 to m, of which those above i are in n
+pub number-none : (m : ℕ) (t : ℕ → Bool) → 0 ≡ number (m - m) (suc m) t
+unfolding number
+number-none m t = let z : m - m ≡ 0 = omega arith in rw z
+
+pub number-down : (m i n : ℕ) (t : ℕ → Bool) → 1 ≤ i → i ≤ m → n ≡ number (m - i) (suc i) t →
+    when (t i) 1 + 2 * n ≡ number (m - (i - 1)) (suc (i - 1)) t
+unfolding number
+number-down m i n t lo hi e =
+    let a : m - (i - 1) ≡ suc (m - i) = omega arith in
+    let b : suc (i - 1) ≡ i = omega arith in
+    rw (a, b, e)
+
+-- no number with all these bits is lower
+number-under : (k s : ℕ) (t : ℕ → Bool) (x : ℕ) → ((j : ℕ) → j < k → t (s + j) ≡ true → bit j x ≡ true) → number k s t ≤ x
+unfolding number
+number-under zero s t x h = omega arith
+number-under (suc k) s t x h =
+    let half = number-under k (suc s) t (x / 2) (λ j l p. sym (bit-half j x) ∙ h (suc j) (omega arith) (ap t (omega arith) ∙ p)) in
+    by-test (t s)
+    (λ p. let odd : x / 1 % 2 ≡ 1 = eqb-true (x / 1 % 2) 1 (h 0 (omega arith) (ap t (omega arith) ∙ p)) in rw p (omega arith))
+    (λ p. rw p (omega arith))
+
+-- the numbering by seats
+module _ {A : Type 0} (M : Market A) (S : Seats) (bits : ℕ) (seated : Seated S (M .many) (M .low) bits) where
+  pub seats-ranked : Ranked M (seatMember S) (2 ^ bits)
+  seats-ranked t =
+      let u : ℕ → Bool = λ j. S .taken j && t (S .sitter j) in
+      let n = number bits 0 u in
+      let same : (i : ℕ) → Among (M .many) (M .low) i → bit (S .seat i) n ≡ t i =
+      λ i r. let (l, p, back) = seated .sits i r in number-bit bits 0 u (S .seat i) l ∙ rw (zero-add, p, back) in (
+        n,
+        number-below bits 0 u,
+        same,
+        λ k beneath.
+            let (i, r, has, lacks) = beneath .short in
+            let under : n ≤ k = number-under bits 0 u k (λ j l p.
+            let (taken, on) = and-means (itself (S .taken j)) (itself (t (S .sitter j))) .0 (ap u (omega arith) ∙ p) in
+            let (r, e) = seated .seats j taken in
+            ap (λ j. bit j k) (sym e) ∙ beneath .inside (S .sitter j) r on) in
+            elim (ℕ-discrete n k) [ yes e ↦ fails has (ap (bit (S .seat i)) (sym e) ∙ same i r ∙ lacks) | no e ↦ omega arith ],
+      )
+
+pub ranked-numbered : {A : Type 0} (M : Market A) (member : ℕ → ℕ → Bool) (sets : ℕ) → Ranked M member sets → Numbered M member sets
+ranked-numbered M member sets ranked t = let (n, l, same, _) = ranked t in (n, l, same)
+
+-- sets have as many bits as there are bidders, or up to six
+pub plain-seated : (m bits : ℕ) → m ≤ bits → bits ≤ 6 → Seated (plain m) m 1 bits
+plain-seated m bits more few =
+    record {
+      enough = few;
+      sits = λ i r. (omega arith, lt-ltb (i - 1) m (omega arith), omega arith);
+      seats = λ j p. (omega (arith, ltb-true j m p), omega arith);
+    }

@@ -1,0 +1,156 @@
+-- A list of prices that `Holds` a sale's payoffs quotes as they do (`best-is`, `wants-same`, `keen-same`), and a round raises it as it lowers them
+-- (`raised-holds`). At any `Fair` prices the answers are by payoffs (`quote-answers`). Assumes bidders with seats and an empty bundle of no worth.
+use mathlib.Core.Path.{_≡_, sym, ap, _∙_}
+use mathlib.Core.Bool.{Bool, true, false, not, _&&_}
+use mathlib.Core.List.{List}
+use Prim.Native.Nat.{ℕ, suc, _+_, _-_, _*_, _/_, _≤_, _<_}
+use native.Mathlib.Nat.{zero-add}
+use native.Mathlib.Omega.{arith}
+use native.Mathlib.Decide.{ℕ-discrete}
+use lib.Dec.{eqb, ltb, leb}
+use lib.ListN.{getD, getD-replicate}
+use borrow.Author.Tests.{le-leb, lt-ltb, ne-eqb}
+use Rattle.theory.specs.Sums.{when}
+use Rattle.theory.specs.Lists.{upTo}
+use Rattle.theory.specs.Markets.{Market, Table, Bidder, asks, lower}
+use Rattle.theory.specs.Auction.{own}
+use Rattle.theory.specs.Universal.{Answers}
+use Rattle.theory.proofs.Tests.{by-test, same-test, not-means, means-via, eqb-means, leb-means}
+use Rattle.theory.proofs.Lists.{most-same, most-upper, most-reached, upTo-in, upTo-from, tabulate-at}
+use Rattle.theory.proofs.Ascent.{asks-best, asks-raised}
+use Rattle.owners.specs.Prices.{Seats, zeros, price, payoff, best, quote, Fair, Holds, Priced, read, raisedAt, raised}
+
+-- prices up to 65,535 are fair; and so are a sale's own
+pub small-fair : {A : Type 0} (M : Market A) (S : Seats) (all : ℕ) (v : Table) (ps : List ℕ) → ((k : ℕ) → getD ps k 0 ≤ 65535) → Fair S M all v ps
+small-fair M S all v ps small i r s h = by-test (eqb s 0) (λ e. rw e (omega arith)) (λ e. rw e (omega (arith, small (16 * S .seat i + s))))
+
+-- other places keep what they hold
+pub raised-unread : (S : Seats) (all : ℕ) (v : Table) (set : ℕ → Bool) (ps : List ℕ) (k : ℕ) →
+    k < 16 * S .rows → read S all k ≡ false → getD (raised S all v set ps) k 0 ≡ getD ps k 0
+raised-unread S all v set ps k h e =
+    tabulate-at (16 * S .rows) 0 (λ k. raisedAt S all v set ps k (k / 16) (k - 16 * (k / 16))) k 0 h
+    ∙ rw zero-add
+    (by-test (S .taken (k / 16))
+    (λ p. by-test (leb 1 (k - 16 * (k / 16)))
+    (λ q. let r : ltb (k - 16 * (k / 16)) all ≡ false = rw (p, q) at e in rw (p, q, r) (omega arith))
+    (λ q. rw (p, q) (omega arith)))
+    (λ p. rw p (omega arith)))
+
+pub holds-fair : {A : Type 0} (M : Market A) (S : Seats) (all top : ℕ) (v : Table) (ps : List ℕ) (π : ℕ → ℕ) → Holds M S all top v ps π → Fair S M all v ps
+holds-fair M S all top v ps π holds i r s h = omega (arith, holds .prices i r s h)
+
+module _ {A : Type 0} {M : Market A} {S : Seats} {bits all top : ℕ} {v : Table} (priced : Priced M S bits all top v) where
+  module _ (ps : List ℕ) (i : ℕ) (bidder : Bidder M i) where
+    best-least : 65535 ≤ best S all v ps i
+    best-least = omega (arith, priced .free i bidder, most-upper (payoff S v ps i) (upTo-in all 0 {i = 0} (omega arith)))
+
+    -- keen is who does not want the empty bundle
+    pub keen-wants : quote S all v ps .keen i ≡ not (quote S all v ps .wants i 0)
+    keen-wants =
+        let wants = not-means (eqb-means (v i 0 + 65535 - 0) (best S all v ps i)) in
+        same-test _ _
+        (λ e. wants .1 (λ z. omega (arith, priced .free i bidder, leb-means (suc 65535) (best S all v ps i) .0 e)))
+        (λ e. leb-means (suc 65535) (best S all v ps i) .1 (let z = wants .0 e in
+        elim (ℕ-discrete (v i 0 + 65535 - 0) (best S all v ps i)) [ yes q ↦ absurd (z q) | no q ↦ omega (arith, best-least, priced .free i bidder) ]))
+
+  -- at any prices that make no payoff less than -65,535
+  pub quote-answers : (ps : List ℕ) → Fair S M all v ps → Answers M (λ s. s < all) v (λ i. best S all v ps i - 65535) (quote S all v ps)
+  quote-answers ps fair =
+      record {
+        covered = λ i r s h. omega (arith, fair i r s h, most-upper (payoff S v ps i) (upTo-in all 0 {i = s} (omega arith)));
+        reached = λ i r.
+            let (s, h, e) = most-reached (payoff S v ps i) (upTo-in all 0 {i = 0} (omega arith)) in
+            let below : s < all = omega (arith, upTo-from all 0 h) in
+            (s, below, omega (arith, fair i r s below, best-least ps i r));
+        wanted = λ i r s h.
+            let f = fair i r s h in
+            let b = best-least ps i r in
+            means-via (eqb-means (payoff S v ps i s) (best S all v ps i)) (λ e. omega arith) (λ e. omega arith);
+        eager = λ i r.
+            let b = best-least ps i r in
+            means-via (leb-means (suc 65535) (best S all v ps i)) (λ e. omega arith) (λ e. omega arith);
+        free = λ i r. (priced .free i r, omega arith);
+      }
+
+  module _ (ps : List ℕ) (π : ℕ → ℕ) (holds : Holds M S all top v ps π) (i : ℕ) (bidder : Bidder M i) where
+    pub best-is : best S all v ps i ≡ π i + 65535
+    best-is =
+        most-same (payoff S v ps i) (λ s. v i s + 65535 - asks v π i s) (upTo all 0)
+        (λ s h. ap (λ p. v i s + 65535 - p) (holds .prices i bidder s (omega (arith, upTo-from all 0 h))))
+        ∙ asks-best v π i 65535 (upTo-in all 0 (omega arith)) (holds .modest i bidder)
+
+    pub wants-same : (s : ℕ) → s < all → quote S all v ps .wants i s ≡ own v π .wants i s
+    wants-same s h =
+        rw (best-is, holds .prices i bidder s h)
+        (same-test _ _
+        (λ e. leb-means (π i) (v i s) .1 (omega (arith, eqb-means (v i s + 65535 - asks v π i s) (π i + 65535) .0 e)))
+        (λ e. eqb-means (v i s + 65535 - asks v π i s) (π i + 65535) .1 (omega (arith, leb-means (π i) (v i s) .0 e))))
+
+    pub keen-same : quote S all v ps .keen i ≡ own v π .keen i
+    keen-same =
+        rw best-is
+        (same-test _ _
+        (λ e. leb-means 1 (π i) .1 (omega (arith, leb-means (suc 65535) (π i + 65535) .0 e)))
+        (λ e. leb-means (suc 65535) (π i + 65535) .1 (omega (arith, leb-means 1 (π i) .0 e))))
+
+  price-at : (ps : List ℕ) (i s : ℕ) → 1 ≤ s → price S ps i s ≡ getD ps (16 * S .seat i + s) 0
+  price-at ps i s h = rw (ne-eqb s 0 (λ z. omega arith))
+
+  -- the place of a seat and a bundle
+  row : (j s : ℕ) → s < 16 → (0 + (16 * j + s)) / 16 ≡ j
+  row j s h = omega arith
+
+  column : (j s : ℕ) → 0 + (16 * j + s) - 16 * j ≡ s
+  column j s = omega arith
+
+  raised-price : (set : ℕ → Bool) (ps : List ℕ) (i s : ℕ) → Bidder M i → 1 ≤ s → s < all →
+      price S (raised S all v set ps) i s ≡ price S ps i s + when (set i && quote S all v ps .wants i s) 1
+  raised-price set ps i s r l h =
+      let (j, t, back) = priced .seated .sits i r in
+      price-at (raised S all v set ps) i s l
+      ∙ tabulate-at (16 * S .rows) 0 (λ k. raisedAt S all v set ps k (k / 16) (k - 16 * (k / 16))) (16 * S .seat i + s) 0
+      (omega (arith, priced .seated .enough))
+      ∙ rw (
+        row (S .seat i) s (omega arith),
+        column (S .seat i) s,
+        t,
+        back,
+        le-leb 1 s l,
+        lt-ltb s all h,
+        price-at ps i s l,
+        zero-add,
+      )
+
+  pub raised-holds : (set : ℕ → Bool) (ps : List ℕ) (π : ℕ → ℕ) → ((i : ℕ) → Bidder M i → set i ≡ true → 1 ≤ π i) →
+      Holds M S all top v ps π → Holds M S all top v (raised S all v set ps) (lower set π)
+  raised-holds set ps π keen holds =
+      record {
+        modest = λ i r. omega (arith, holds .modest i r);
+        prices = λ i r s h.
+            elim (ℕ-discrete s 0) [
+              | yes z ↦ rw z (omega (arith, priced .free i r))
+              | no z ↦
+                  raised-price set ps i s r (omega arith) h
+                  ∙ rw (wants-same ps π holds i r s h, holds .prices i r s h)
+                  (sym (asks-raised v π i set (keen i r) s))
+            ];
+      }
+
+  -- the sale's first prices
+  zero-price : (i s : ℕ) → Bidder M i → s < all → price S (zeros S) i s ≡ 0
+  zero-price i s r h =
+      by-test (eqb s 0)
+      (λ e. rw e)
+      (λ e. rw e
+      (getD-replicate (16 * S .rows) (16 * S .seat i + s) 0 0 (omega (arith, priced .seated .sits i r, priced .seated .enough))))
+
+  pub zeros-hold : ((i : ℕ) → Bidder M i → (s : ℕ) → s < all → v i s ≤ v i top) → Holds M S all top v (zeros S) (λ i. v i top)
+  zeros-hold topmost = record { modest = λ i r. omega arith; prices = λ i r s h. omega (arith, zero-price i s r h, topmost i r s h) }
+
+  -- the payoffs can be read off the prices of the bundle of all
+  pub reads-hold : (ps : List ℕ) (π : ℕ → ℕ) → Holds M S all top v ps π → Holds M S all top v ps (λ i. v i top - price S ps i top)
+  reads-hold ps π holds =
+      record {
+        modest = λ i r. omega arith;
+        prices = λ i r s h. omega (arith, holds .modest i r, holds .prices i r top (priced .topped), holds .prices i r s h);
+      }

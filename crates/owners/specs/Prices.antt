@@ -1,0 +1,88 @@
+-- Prices as one list, sixteen to a row, and the quote that bidders with worths v make of them, at any prices. Each bidder has a seat: its row,
+-- and its bit in the number of a set. Offers `price`, `payoff`, `quote`, a round's raise (`raised`), and when a list `Holds` the prices of a
+-- sale's payoffs.
+use mathlib.Core.Path.{_≡_}
+use mathlib.Core.Bool.{Bool, true, _&&_}
+use mathlib.Core.List.{List}
+use Prim.Native.Nat.{ℕ, suc, _+_, _-_, _*_, _/_, _≤_, _<_}
+use lib.Dec.{eqb, ltb, leb}
+use lib.ListN.{getD, replicate}
+use Rattle.theory.specs.Sums.{pick, when, Among}
+use Rattle.theory.specs.Lists.{most, tabulate, upTo}
+use Rattle.theory.specs.Markets.{Market, Table, Bidder, asks}
+use Rattle.theory.specs.Auction.{Quote}
+use Rattle.owners.specs.Owners.{bit}
+
+-- which row each bidder has, who sits at it, and whether anybody does
+pub record Seats : Type 0 where
+  pub rows : ℕ
+  pub seat : ℕ → ℕ
+  pub sitter : ℕ → ℕ
+  pub taken : ℕ → Bool
+
+-- the bidders have the seats that are taken, all of them below `bits`
+pub record Seated (S : Seats) (many low bits : ℕ) : Type 0 where
+  pub enough : bits ≤ S .rows
+  pub sits : (i : ℕ) → Among many low i → (S .seat i < bits) × (S .taken (S .seat i) ≡ true) × (S .sitter (S .seat i) ≡ i)
+  pub seats : (j : ℕ) → S .taken j ≡ true → Among many low (S .sitter j) × (S .seat (S .sitter j) ≡ j)
+
+-- "There are ninety-six prices, sixteen to a buyer": m buyers, from 1 on, in six rows
+abbrev pub plain : ℕ → Seats
+plain m = record { rows = 6; seat = λ i. i - 1; sitter = suc; taken = λ j. ltb j m }
+
+module _ (S : Seats) where
+  abbrev pub seatMember : ℕ → ℕ → Bool
+  seatMember n i = bit (S .seat i) n
+
+  -- "all zero at the start"
+  abbrev pub zeros : List ℕ
+  zeros = replicate (16 * S .rows) 0
+
+  -- "the empty bundle always costs 0"
+  abbrev pub price : List ℕ → Table
+  price ps i s = pick (eqb s 0) 0 (getD ps (16 * S .seat i + s) 0)
+
+  -- "A buyer's payoff from a bundle is worth less price, and may be negative": kept 65,535 higher, so that none is
+  abbrev pub payoff : Table → List ℕ → Table
+  payoff v ps i s = v i s + 65535 - price ps i s
+
+  -- the greatest payoff, over the bundles below `all`
+  abbrev pub best : ℕ → Table → List ℕ → ℕ → ℕ
+  best all v ps i = most (payoff v ps i) (upTo all 0)
+
+  -- "The demand set holds all bundles of greatest payoff", and "A buyer is keen if that greatest payoff is above 0"
+  abbrev pub quote : ℕ → Table → List ℕ → Quote
+  quote all v ps =
+      record {
+        prices = price ps;
+        wants = λ i s. eqb (payoff v ps i s) (best all v ps i);
+        keen = λ i. ltb 65535 (best all v ps i);
+      }
+
+  -- no payoff is cut off
+  abbrev pub Fair : {A : Type 0} → Market A → ℕ → Table → List ℕ → Type 0
+  Fair M all v ps = (i : ℕ) → Bidder M i → (s : ℕ) → s < all → price ps i s ≤ v i s + 65535
+
+  -- place k is that of a bidder and of a bundle that is not empty
+  abbrev pub read : ℕ → ℕ → Bool
+  read all k = S .taken (k / 16) && (leb 1 (k - 16 * (k / 16)) && ltb (k - 16 * (k / 16)) all)
+
+  -- "Every price of a member for a bundle it demands rises by 1": the price at place k, which is that of row j and bundle s
+  abbrev pub raisedAt : ℕ → Table → (ℕ → Bool) → List ℕ → ℕ → ℕ → ℕ → ℕ
+  raisedAt all v set ps k j s =
+      getD ps k 0 + when (S .taken j && (leb 1 s && (ltb s all && (set (S .sitter j) && quote all v ps .wants (S .sitter j) s)))) 1
+
+  abbrev pub raised : ℕ → Table → (ℕ → Bool) → List ℕ → List ℕ
+  raised all v set ps = tabulate (16 * S .rows) 0 (λ k. raisedAt all v set ps k (k / 16) (k - 16 * (k / 16)))
+
+-- the list holds the prices of the payoffs π: worths v, bundles below `all`, of which `top` is worth most
+pub record Holds {A : Type 0} (M : Market A) (S : Seats) (all top : ℕ) (v : Table) (ps : List ℕ) (π : ℕ → ℕ) : Type 0 where
+  pub modest : (i : ℕ) → Bidder M i → π i ≤ v i top
+  pub prices : (i : ℕ) → Bidder M i → (s : ℕ) → s < all → price S ps i s ≡ asks v π i s
+
+-- bidders with seats, few bundles, `top` one of them, and an empty bundle worth nothing
+pub record Priced {A : Type 0} (M : Market A) (S : Seats) (bits all top : ℕ) (v : Table) : Type 0 where
+  pub seated : Seated S (M .many) (M .low) bits
+  pub small : all ≤ 16
+  pub topped : top < all
+  pub free : (i : ℕ) → Bidder M i → v i 0 ≡ 0

@@ -1,0 +1,53 @@
+-- The rounds of a sale by coalition values. What a bidder has left is read off the prices of the bundle of all, the lowest undersupplied set
+-- follows from it and the values, and the raise from it and the worths. Offers `quickChoice` and `quickStep`, which do what the definition's
+-- `choose` and `step` do along a sale; and of m buyers the `roster` and the values of their sets.
+use mathlib.Core.Bool.{Bool, true, _&&_}
+use mathlib.Core.List.{List}
+use Prim.Native.Nat.{ℕ, zero, suc, _+_, _-_, _*_, _/_, _^_}
+use lib.Dec.{eqb, ltb, leb}
+use lib.ListN.{getD}
+use Rattle.theory.specs.Sums.{when}
+use Rattle.theory.specs.Lists.{most, tabulate}
+use Rattle.theory.specs.Markets.{Table, total, without}
+use Rattle.theory.specs.Auction.{Auction}
+use Rattle.theory.specs.Coalitions.{Roster, rosterOf, lowestBy}
+use Rattle.owners.specs.Owners.{allocations, zeroFirst, market, single, member, holders}
+use Rattle.owners.specs.Prices.{Seats, price}
+
+module _ (S : Seats) where
+  -- what bidder i has left of its worth of `top`
+  abbrev pub left : Table → ℕ → List ℕ → ℕ → ℕ
+  left v top ps i = v i top - price S ps i top
+
+  -- the price of row j for bundle s rises: the row's bidder is a member, and the bundle is worth what it has left
+  abbrev pub rising : ℕ → Table → (ℕ → Bool) → (ℕ → ℕ) → ℕ → ℕ → Bool
+  rising all v set π j s =
+      S .taken j && (leb 1 s && (ltb s all && (set (S .sitter j) && leb (π (S .sitter j)) (v (S .sitter j) s))))
+
+  abbrev pub risenAt : ℕ → Table → (ℕ → Bool) → (ℕ → ℕ) → List ℕ → ℕ → ℕ
+  risenAt all v set π ps k = getD ps k 0 + when (rising all v set π (k / 16) (k - 16 * (k / 16))) 1
+
+  unfoldable pub raisedBy : ℕ → Table → (ℕ → Bool) → (ℕ → ℕ) → List ℕ → List ℕ
+  raisedBy all v set π ps = tabulate (16 * S .rows) 0 (risenAt all v set π ps)
+
+module _ {A : Type 0} (X : Auction A) (S : Seats) (all : ℕ) (v : Table) where
+  abbrev pub quickChoice : ℕ → (ℕ → ℕ) → List ℕ → ℕ
+  quickChoice shift value ps = lowestBy (rosterOf X) shift value (left S v (X .top) ps)
+
+  abbrev pub quickStep : ℕ → List ℕ → List ℕ
+  quickStep x ps = raisedBy S all v (X .member x) (left S v (X .top) ps) ps
+
+-- who is present in economy e of m buyers: everybody in 0, and in another everybody but buyer e
+abbrev pub presentIn : ℕ → ℕ → Bool
+presentIn zero i = true
+presentIn (suc e) i = without (suc e) i
+
+abbrev pub roster : ℕ → Roster
+roster m = record { many = m; low = 1; member = member; sets = 2 ^ m; presents = tabulate (suc m) 0 presentIn }
+
+-- the total of an owner list if n is the number of its holders, and the value of set n: the greatest such total
+abbrev pub totalBy : ℕ → Table → ℕ → List ℕ → ℕ
+totalBy m v n a = when (eqb (holders m a) n) (total (market m single) v a)
+
+abbrev pub valueOf : ℕ → ℕ → Table → ℕ → ℕ
+valueOf m lots v n = most (totalBy m v n) (allocations (zeroFirst m) lots)

@@ -1,0 +1,145 @@
+-- Rounds over any choice and step, while they go on (`Going`) and when they have ended (`Done`). Offers the begin (`begun`), one round more (`goes-on`), the
+-- two ends (`settles`, `runs-out`), and what one round answers (`round-none`, `round-some`). Assumes nothing.
+use mathlib.Core.Path.{_≡_, refl, sym, ap, _∙_}
+use mathlib.Core.Bool.{true, false}
+use mathlib.Core.List.{List, [], _∷_, _++_, append-assoc, append-nil}
+use Prim.Native.Nat.{ℕ, suc, _+_, _-_, _≤_, _<_}
+use native.Mathlib.Nat.{add-zero, sub-zero}
+use native.Mathlib.Numerals.{add-one}
+use native.Mathlib.Omega.{arith}
+use lib.Dec.{eqb}
+use lib.ListN.{length, take, drop, set, length-append, length-take, length-drop, length-set}
+use lib.Seq.{drop-cons, set-append-seam}
+use borrow.Rule.Slice.PartMut.{putMid, set-mid-at, put-same}
+use borrow.Author.Tests.{eq-eqb, ne-eqb, eqb-true, eqb-false}
+use Rattle.theory.specs.Rounds.{on, choices, after}
+use Rattle.theory.proofs.Tests.{by-test}
+use Rattle.owners.specs.Singles.{AtMost, over}
+use Rattle.rounds.specs.declared.State.{State}
+use Rattle.rounds.specs.Rounds.{Round}
+
+tail-set : (l last : List ℕ) (at b : ℕ) → at < length l → last ≡ set (take (length l - at) (drop at l)) 0 b → putMid at (length l - at) l last ≡ set l at b
+tail-set l last at b h e =
+    rw e (set-mid-at at (length l - at) 0 l b (simp (length-take, length-drop) (omega arith)) ∙ ap (λ (n : ℕ). set l n b) (add-zero at))
+
+tail-same : (l last : List ℕ) (at : ℕ) → last ≡ take (length l - at) (drop at l) → putMid at (length l - at) l last ≡ l
+tail-same l last at e = rw e (put-same at (length l - at) l)
+
+over-more : (xs ys : List ℕ) (b n : ℕ) → length xs ≡ n → n < length ys → set (over xs ys) n b ≡ over (xs ++ (b ∷ [])) ys
+over-more xs ys b n e h =
+    rw (e, drop-cons ys n 0 h, ← e, set-append-seam, length-append, add-one, append-assoc) refl
+
+-- what rounds have done that ended
+pub record Done (choose : List ℕ → ℕ) (step : ℕ → List ℕ → List ℕ) (limit : ℕ) (start o l : List ℕ) (r : State) : Type 0 where
+  pub prices : r .prices ≡ after step start (choices choose step limit start)
+  pub rounds : r .rounds ≡ length (choices choose step limit start)
+  pub settled : r .settled ≡ eqb (choose (after step start (choices choose step limit start))) 0
+  pub bytes : l ≡ over (choices choose step limit start) o
+
+-- and rounds that go on: n of them so far, with the prices ps; `sets` are theirs, and the record was o and is l
+pub record Going (choose : List ℕ → ℕ) (step : ℕ → List ℕ → List ℕ) (limit : ℕ) (start o l ps : List ℕ) (n : ℕ) : Type 0 where
+  pub sets : List ℕ
+  pub count : length sets ≡ n
+  pub few : n ≤ limit
+  pub same : length l ≡ length o
+  pub bytes : l ≡ over sets o
+  pub rest : sets ++ choices choose step (limit - n) ps ≡ choices choose step limit start
+  pub last : after step ps (choices choose step (limit - n) ps) ≡ after step start (choices choose step limit start)
+  pub small : AtMost n ps
+
+pub begun : {choose : List ℕ → ℕ} {step : ℕ → List ℕ → List ℕ} {limit : ℕ} {start o ps : List ℕ} {n : ℕ} →
+    AtMost 0 start → ps ≡ start → n ≡ 0 → Going choose step limit start o o ps n
+begun none e z =
+    record {
+      sets = [];
+      count = sym z;
+      few = omega arith;
+      same = refl;
+      bytes = refl;
+      rest = rw (e, z, sub-zero);
+      last = rw (e, z, sub-zero);
+      small = rw (e, z) none;
+    }
+
+module _
+    {choose : List ℕ → ℕ} {step : ℕ → List ℕ → List ℕ} {limit : ℕ} {start o l ps : List ℕ} {n : ℕ}
+    (g : Going choose step limit start o l ps n) where
+  -- no choice is left
+  ends : choices choose step (limit - n) ps ≡ [] → (r : State) → r .prices ≡ ps → r .rounds ≡ n → r .settled ≡ eqb (choose ps) 0 →
+      (l′ : List ℕ) → l′ ≡ l → Done choose step limit start o l′ r
+  ends z r ep en es l′ el =
+      let all : g .sets ≡ choices choose step limit start = sym (append-nil (g .sets)) ∙ (rw z at (g .rest)) in
+      let last : ps ≡ after step start (choices choose step limit start) = rw z at (g .last) in
+      record {
+        prices = ep ∙ last;
+        rounds = en ∙ sym (g .count) ∙ ap length all;
+        settled = es ∙ ap (λ ps. eqb (choose ps) 0) last;
+        bytes = el ∙ g .bytes ∙ ap (λ s. over s o) all;
+      }
+
+  -- the limit is reached
+  pub runs-out : {r : State} (x : ℕ) → limit ≤ n → x ≡ choose ps → r .prices ≡ ps → r .rounds ≡ n → r .settled ≡ eqb x 0 →
+      Done choose step limit start o l r
+  runs-out {r} x h ex ep en es =
+      let k : limit - n ≡ 0 = omega arith in
+      ends (ap (λ k. choices choose step k ps) k) r ep en (es ∙ ap (λ y. eqb y 0) ex) l refl
+
+  -- one round more, that was lent the record from n on and left `end` there
+  module _ (h : n < limit) (f : limit ≤ length o) {end : List ℕ} {r : State} (d : Round choose step ps n (take (length l - n) (drop n l)) end r) where
+    left : limit - n ≡ suc (limit - (n + 1))
+    left = omega arith
+
+    pub goes-on : ((x c : ℕ) (ps : List ℕ) → AtMost c ps → AtMost (c + 1) (step x ps)) → r .settled ≡ false →
+        Going choose step limit start o (putMid n (length l - n) l end) (r .prices) (r .rounds)
+    goes-on rises t =
+        let v : eqb (choose ps) 0 ≡ false = sym (d .settled) ∙ t in
+        let x : choose ps ≡ suc (choose ps - 1) = omega (arith, eqb-false (choose ps) 0 v) in
+        let c : r .rounds ≡ n + 1 = rw v at (d .rounds) in
+        let p : r .prices ≡ step (choose ps - 1) ps = rw v at (d .prices) in
+        let e : putMid n (length l - n) l end ≡ set l n (choose ps - 1) =
+        tail-set l end n (choose ps - 1) (omega (arith, g .same)) (rw v at (d .bytes)) in
+        let more : choices choose step (limit - n) ps ≡ (choose ps - 1) ∷ choices choose step (limit - (n + 1)) (step (choose ps - 1) ps) =
+        ap (λ k. choices choose step k ps) left
+        ∙ ap (λ y. on y [] (λ x. x ∷ choices choose step (limit - (n + 1)) (step x ps))) x in
+        record {
+          sets = g .sets ++ ((choose ps - 1) ∷ []);
+          count = rw (length-append, g .count, c);
+          few = rw c (omega arith);
+          same = ap length e ∙ length-set l n (choose ps - 1) ∙ g .same;
+          bytes = rw (e, g .bytes) (over-more (g .sets) o (choose ps - 1) n (g .count) (omega arith));
+          rest = rw (c, p, append-assoc, ← more) (g .rest);
+          last = rw (c, p) (sym (ap (after step ps) more) ∙ g .last);
+          small = rw (c, p) (rises (choose ps - 1) n ps (g .small));
+        }
+
+    pub one-more : r .settled ≡ false → r .rounds ≡ n + 1
+    one-more t = let v : eqb (choose ps) 0 ≡ false = sym (d .settled) ∙ t in rw v at (d .rounds)
+
+    pub settles : r .settled ≡ true → Done choose step limit start o (putMid n (length l - n) l end) r
+    settles t =
+        let v : eqb (choose ps) 0 ≡ true = sym (d .settled) ∙ t in
+        let none : choices choose step (limit - n) ps ≡ [] =
+        ap (λ k. choices choose step k ps) left
+        ∙ ap (λ y. on y [] (λ x. x ∷ choices choose step (limit - (n + 1)) (step x ps))) (eqb-true (choose ps) 0 v) in
+        ends none r (rw v at (d .prices)) (rw v at (d .rounds)) (d .settled) (putMid n (length l - n) l end) (tail-same l end n (rw v at (d .bytes)))
+
+    -- the record keeps its length
+    pub kept : length (putMid n (length l - n) l end) ≡ length o
+    kept =
+        by-test (eqb (choose ps) 0)
+        (λ v. ap length (tail-same l end n (rw v at (d .bytes))) ∙ g .same)
+        (λ v. ap length (tail-set l end n (choose ps - 1) (omega (arith, g .same)) (rw v at (d .bytes)))
+        ∙ length-set l n (choose ps - 1) ∙ g .same)
+
+-- a round that finds no set, and one that finds one
+module _ (choose : List ℕ → ℕ) (step : ℕ → List ℕ → List ℕ) (ps : List ℕ) (n : ℕ) (o : List ℕ) (x : ℕ) (e : x ≡ choose ps) where
+  pub round-none : x ≡ 0 → Round choose step ps n o o (record { prices = ps; rounds = n; settled = true })
+  round-none z =
+      let v : eqb (choose ps) 0 ≡ true = eq-eqb (choose ps) 0 (sym e ∙ z) in
+      record { prices = rw v; rounds = rw v; settled = sym v; bytes = rw v }
+
+  pub round-some : (qs : List ℕ) → (x ≡ 0 → ⊥) → qs ≡ step (x - 1) ps →
+      Round choose step ps n o (set o 0 (x - 1)) (record { prices = qs; rounds = n + 1; settled = false })
+  round-some qs z q =
+      let v : eqb (choose ps) 0 ≡ false = ne-eqb (choose ps) 0 (λ w. z (e ∙ w)) in
+      record { prices = rw v (q ∙ ap (λ y. step (y - 1) ps) e); rounds = rw v; settled = sym v; bytes = rw (v, e) }

@@ -1,0 +1,90 @@
+-- The rounds by coalition values are the sale's: what they did (`Done`) is what `Sold` says. With room for as many rounds as all lots are worth to all
+-- buyers together, the sale is settled (`sold-settled`). Assumes what `Opens` says of the worths, and a table of the values.
+use mathlib.Core.Path.{_≡_, sym, ap, subst, _∙_}
+use mathlib.Core.Bool.{true}
+use mathlib.Core.List.{List}
+use Prim.Native.Nat.{ℕ, _-_, _^_, _≤_}
+use native.Mathlib.Omega.{arith}
+use lib.Dec.{eqb}
+use lib.ListN.{length}
+use lib.Pow.{pow-mono}
+use Rattle.theory.specs.Rounds.{choices, after}
+use Rattle.theory.specs.Coalitions.{Values, Roster, lowestBy}
+use Rattle.theory.proofs.Coalitions.{values-same}
+use Rattle.sheet.specs.Steps.{Is}
+use Rattle.owners.specs.Owners.{allocations, zeroFirst, single}
+use Rattle.owners.specs.Prices.{plain, zeros}
+use Rattle.owners.specs.Sales.{choose, sets, lastPrices, limit}
+use Rattle.owners.specs.Quick.{left, roster, valueOf}
+use Rattle.owners.specs.Singles.{worth, AtMost, Topped, sale, startPrices, saleSets, salePrices, saleChoice, over}
+use Rattle.owners.proofs.Quick.{quick-rounds, quick-last, quick-settled, roster-is, walk-values}
+use Rattle.owners.proofs.Singles.{limit-small, sale-hall, sale-worths, sale-settled}
+use Rattle.rounds.specs.declared.State.{State}
+use Rattle.rounds.specs.Supply.{shift, at}
+use Rattle.rounds.specs.Values.{Valued}
+use Rattle.rounds.specs.Rounds.{Known, Opens, Sold, lowestAt, stepAt}
+use Rattle.rounds.proofs.Walking.{zero-at}
+use Rattle.rounds.proofs.Going.{Done}
+
+pub start-none : AtMost 0 startPrices
+unfolding startPrices
+start-none k = omega (arith, zero-at 96 k)
+
+-- `all` is the number of bundles
+pub known : {m n f all : ℕ} {ws values o : List ℕ} → Opens m n ws f o → Valued m n ws values → Is (2 ^ n) all 64 → Known m all ws values
+known {n = n} opens valued is =
+    record {
+      few = opens .few-buyers;
+      two = omega (arith, is .is, pow-mono {i = 1} {j = n} (opens .some-lots));
+      short = omega (arith, is .is, pow-mono {i = n} {j = 4} (opens .few-lots));
+      worths = opens .small;
+      totals = valued .small;
+    }
+
+module _ (m n f : ℕ) (ws values o : List ℕ) (opens : Opens m n ws f o) (valued : Valued m n ws values) where
+  abbrev al : List (List ℕ)
+  al = allocations (zeroFirst m) n
+
+  -- the rounds by a roster, from the zeros on
+  abbrev chooseBy : Roster → List ℕ → ℕ
+  chooseBy R ps = lowestBy R shift (at values) (left (plain m) (worth ws) (2 ^ n - 1) ps)
+
+  pub Agrees : Roster → Type 0
+  Agrees R =
+      let zs = zeros (plain m) in
+      let v = worth ws in
+      let last = lastPrices (sale m n) (plain m) (2 ^ n) v zs f in
+      (choices (chooseBy R) (stepAt m (2 ^ n) ws) f zs ≡ sets (sale m n) (plain m) (2 ^ n) v zs f)
+      × (after (stepAt m (2 ^ n) ws) zs (choices (chooseBy R) (stepAt m (2 ^ n) ws) f zs) ≡ last)
+      × (choose (sale m n) (plain m) (2 ^ n) v last ≡ chooseBy R last)
+
+  agrees : Agrees (roster m)
+  unfolding Agrees
+  agrees =
+      let hall = sale-hall m n (opens .few-buyers) (opens .few-lots) in
+      let worths = sale-worths m n (opens .few-buyers) (opens .few-lots) ws (opens .topped) in
+      let found : Values (sale m n) (worth ws) al (at values) =
+      values-same (sale m n) (worth ws) al (at values) (valueOf m n (worth ws)) (λ k _. valued .is k) (walk-values m n (worth ws) (2 ^ n - 1)) in
+      let wide : limit (sale m n) (plain m) (2 ^ n) (worth ws) ≤ shift = omega (arith, limit-small m n (opens .few-buyers) ws (opens .small)) in
+      subst Agrees (roster-is m al single (2 ^ n - 1)) (
+        quick-rounds (sale m n) (plain m) (2 ^ n) m al hall (worth ws) worths (at values) found shift wide f,
+        quick-last (sale m n) (plain m) (2 ^ n) m al hall (worth ws) worths (at values) found shift wide f,
+        quick-settled (sale m n) (plain m) (2 ^ n) m al hall (worth ws) worths (at values) found shift wide f,
+      )
+
+pub sold : {m n f all : ℕ} {ws values o l : List ℕ} {r : State} → Opens m n ws f o → Valued m n ws values → all ≡ 2 ^ n →
+    Done (lowestAt m (all - 1) ws values) (stepAt m all ws) f startPrices o l r → Sold m n ws f o l r
+unfolding Agrees lowestAt startPrices saleSets salePrices saleChoice
+sold {m} {n} {f} {ws = ws} {values} {o} opens valued e done =
+    let d = rw e at done in
+    let (same, last, end) = agrees m n f ws values o opens valued in
+    record {
+      prices = d .prices ∙ last;
+      rounds = d .rounds ∙ ap length same;
+      settled = d .settled ∙ ap (λ ps. eqb (lowestAt m (2 ^ n - 1) ws values ps) 0) last ∙ ap (λ c. eqb c 0) (sym end);
+      bytes = d .bytes ∙ ap (λ s. over s o) same;
+    }
+
+pub sold-settled : (m n f : ℕ) (ws o l : List ℕ) (r : State) → m ≤ 6 → n ≤ 4 → Topped m n ws → limit (sale m n) (plain m) (2 ^ n) (worth ws) ≤ f →
+    Sold m n ws f o l r → r .settled ≡ true
+sold-settled m n f ws o l r few short topped room sold = sold .settled ∙ ap (λ c. eqb c 0) (sale-settled m n few short ws topped f room)

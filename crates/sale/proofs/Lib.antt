@@ -1,0 +1,8 @@
+-- Laws and theorems of a sheet's sale.
+pub mod Instance
+pub mod Lists
+pub mod Theorems
+pub mod Present
+pub mod Demanding
+pub mod Totals
+pub mod Selling

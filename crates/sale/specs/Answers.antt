@@ -1,0 +1,81 @@
+-- What the public functions answer, for every sheet, record and price table: `demandAnswer`, `saleAnswer`, `saleRecord`.
+use mathlib.Core.Path.{_≡_}
+use mathlib.Core.Bool.{Bool, true, false}
+use mathlib.Core.List.{List}
+use Prim.Native.Nat.{ℕ}
+use lib.Dec.{leb}
+use lib.ListN.{length, replicate}
+use Rattle.owners.specs.Singles.{over}
+use Rattle.closing.specs.Walks.{four}
+use Rattle.closing.specs.Charges.{seats}
+use Rattle.sheet.specs.declared.Fault.{Fault}
+use Rattle.sheet.specs.Sheets.{Sheet, sheetOf}
+use Rattle.sheet.specs.Questions.{fault, accepts, ask, between, sheetFault}
+use Rattle.sale.specs.declared.Demand.{Demand}
+use Rattle.sale.specs.declared.Sale.{Sale}
+use Rattle.sale.specs.Words.{demandSet, isKeen}
+use Rattle.sale.specs.Rounds.{roundLimit, saleSets, lastPrices, ownersBy, discountFor, paymentFor}
+
+-- what follows if every question so far was answered yes
+abbrev pub onward : {A : Type 0} → Bool → (Unit {0} → A) → A → A
+onward true rest other = rest tt
+onward false rest other = other
+
+-- "Only for a sale: has the lent record at least as many bytes as the sum, over buyers, of the worth of all lots together? No: 9."
+abbrev pub saleFault : List ℕ → ℕ → Fault
+saleFault b room = let f = sheetFault b in onward (accepts f) (λ _. ask 9 (leb (roundLimit (sheetOf b)) room) λ _. fault 0 0) f
+
+-- "Only for a demand answer: is the buyer asked about 1 to m? No: 10."
+abbrev pub demandFault : List ℕ → ℕ → Fault
+demandFault b i = let f = sheetFault b in onward (accepts f) (λ _. ask 10 (between (sheetOf b .buyers) i) λ _. fault 0 0) f
+
+-- "A refusal returns its number and place, every other number 0"
+unfoldable pub refusedDemand : Fault → Demand
+refusedDemand f = record { number = f .number; place = f .place; bundles = 0; keen = false }
+
+unfoldable pub refusedSale : Fault → Sale
+refusedSale f =
+    record {
+      number = f .number;
+      place = f .place;
+      buyers = 0;
+      lots = 0;
+      rounds = 0;
+      prices = replicate 96 0;
+      owners = replicate 4 0;
+      discounts = replicate 6 0;
+      payments = replicate 6 0;
+    }
+
+-- a demand answer at prices brought from outside
+unfoldable pub demandAnswer : List ℕ → ℕ → List ℕ → Demand
+demandAnswer b i ps =
+    let f = demandFault b i in
+    onward (accepts f) (λ _. record { number = 0; place = 0; bundles = demandSet (sheetOf b) ps i; keen = isKeen (sheetOf b) ps i }) (refusedDemand f)
+
+-- "A sale answers buyers, lots, rounds, prices, owners, discounts and payments"
+unfoldable pub settledSale : Sheet → Sale
+settledSale w =
+    record {
+      number = 0;
+      place = 0;
+      buyers = w .buyers;
+      lots = w .lots;
+      rounds = length (saleSets w);
+      prices = lastPrices w;
+      owners = four (ownersBy w (lastPrices w));
+      discounts = seats (w .buyers) (discountFor w (lastPrices w));
+      payments = seats (w .buyers) (paymentFor w (lastPrices w));
+    }
+
+unfoldable pub saleAnswer : List ℕ → ℕ → Sale
+saleAnswer b room = let f = saleFault b room in onward (accepts f) (λ _. settledSale (sheetOf b)) (refusedSale f)
+
+-- "The set's number is the next byte of the record"; "Bytes after the last round keep their old values"; refused, "the record keeps all its bytes"
+unfoldable pub saleRecord : List ℕ → List ℕ → List ℕ
+saleRecord b o = onward (accepts (saleFault b (length o))) (λ _. over (saleSets (sheetOf b)) o) o
+
+-- a sale's whole answer and the record after it; o is the record before
+pub record SaleSays (b o o′ : List ℕ) (r : Sale) : Type 0 where
+  pub answer : r ≡ saleAnswer b (length o)
+  pub bytes : o′ ≡ saleRecord b o

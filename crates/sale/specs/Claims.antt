@@ -1,0 +1,70 @@
+-- What is claimed at any prices and of a sale: universal competitive equilibria as the paper has them, and demand 2 as one record.
+use mathlib.Core.Path.{_≡_}
+use mathlib.Core.Bool.{true, false}
+use mathlib.Core.List.{List}
+use Prim.Native.Nat.{ℕ, suc, _+_, _-_, _*_, _^_, _≤_, _<_}
+use lib.Dec.{eqb}
+use lib.ListN.{length, getD}
+use Rattle.theory.specs.Sums.{Among}
+use Rattle.theory.specs.Lists.{_∈_, sumOver}
+use Rattle.theory.specs.Markets.{sumOf, total}
+use Rattle.theory.specs.Auction.{Minimal, size}
+use Rattle.theory.specs.Universal as universal
+use Rattle.owners.specs.Owners.{member}
+use Rattle.sheet.specs.Sheets.{Sheet}
+use Rattle.sale.specs.Words.{worthOf, priceAt, market, theAuction, economy, best, quote, demandSet, isKeen, revenue, fits, undersupplied, lowest}
+use Rattle.sale.specs.Rounds.{raised, roundLimit, startPrices, saleSets, pricesAfter, lastPrices}
+
+-- a price table that may come from outside
+pub record Prices (ps : List ℕ) : Type 0 where
+  pub long : length ps ≡ 96
+  pub small : (k : ℕ) → getD ps k 0 ≤ 65535
+
+module _ (w : Sheet) where
+  -- two price tables that agree for the buyers there are and the bundles there are, but for the empty one
+  abbrev pub Agree : List ℕ → List ℕ → Type 0
+  Agree ps qs = (i s : ℕ) → Among (w .buyers) 1 i → 1 ≤ s → s < 2 ^ w .lots → getD ps (16 * (i - 1) + s) 0 ≡ getD qs (16 * (i - 1) + s) 0
+
+  -- everything that a sale looks at is then the same
+  pub record SameAnswers (ps qs : List ℕ) : Type 0 where
+    pub demand : (i : ℕ) → Among (w .buyers) 1 i → demandSet w ps i ≡ demandSet w qs i
+    pub keen : (i : ℕ) → Among (w .buyers) 1 i → isKeen w ps i ≡ isKeen w qs i
+    pub revenues : (e : ℕ) → e ≤ w .buyers → revenue w ps e ≡ revenue w qs e
+    pub fitting : (e : ℕ) → e ≤ w .buyers → (a : List ℕ) → a ∈ economy w e → fits w ps e a ≡ fits w qs e a
+    pub chosen : lowest w ps ≡ lowest w qs
+
+  -- definition 1: a competitive equilibrium of the economy e (0: of all buyers): a list of its allocations, of greatest takings among them, in which every
+  -- buyer present, keen or not, holds a bundle of greatest payoff over all bundles. Payoffs may be negative: the inequality is written as a sum.
+  pub record Supports (ps : List ℕ) (e : ℕ) (a : List ℕ) : Type 0 where
+    pub among : a ∈ economy w e
+    pub seller : (c : List ℕ) → c ∈ economy w e → total (market w) (priceAt w ps) c ≤ total (market w) (priceAt w ps) a
+    pub buyers : (i : ℕ) → Among (w .buyers) 1 i → eqb i e ≡ false → (s : ℕ) → s < 2 ^ w .lots →
+        worthOf w i s + priceAt w ps i (market w .holds a i) ≤ worthOf w i (market w .holds a i) + priceAt w ps i s
+
+  -- definition 2: a universal competitive equilibrium
+  abbrev pub UCE : List ℕ → Type 0
+  UCE ps = (e : ℕ) → e ≤ w .buyers → (a : List ℕ) × Supports ps e a
+
+  -- the recorded set of round k + 1
+  abbrev pub setAt : ℕ → ℕ
+  setAt k = getD (saleSets w) k 0
+
+  pub record Demand-2 : Type 0 where
+    -- the last prices are a UCE, and no earlier ones are
+    pub last-uce : UCE (lastPrices w)
+    pub none-earlier : (k : ℕ) → k < length (saleSets w) → UCE (pricesAfter w k) → ⊥
+    -- each recorded set is the lowest undersupplied one at its prices, minimal by definition 11, and has a member
+    pub lowest-set : (k : ℕ) → k < length (saleSets w) → lowest w (pricesAfter w k) ≡ suc (setAt k)
+    pub least-set : (k : ℕ) → k < length (saleSets w) →
+        (undersupplied w (pricesAfter w k) (setAt k) ≡ true) × ((set : ℕ) → set < setAt k → undersupplied w (pricesAfter w k) set ≡ false)
+    pub minimal-set : (k : ℕ) → k < length (saleSets w) → Minimal (market w) (quote w (pricesAfter w k)) (theAuction w .economies) (member (setAt k))
+    pub not-empty : (k : ℕ) → k < length (saleSets w) → (i : ℕ) × Among (w .buyers) 1 i × (member (setAt k) i ≡ true)
+    -- from the zeros on, round by round, the recorded sets give the prices
+    pub from-zeros : pricesAfter w 0 ≡ startPrices w
+    pub replay : (k : ℕ) → k < length (saleSets w) → pricesAfter w (suc k) ≡ raised w (setAt k) (pricesAfter w k)
+    pub to-last : pricesAfter w (length (saleSets w)) ≡ lastPrices w
+    -- the rounds are at most question 9's sum
+    pub few-rounds : length (saleSets w) ≤ roundLimit w
+    -- one raise a member a round: the raises and the last payoffs make up the worths of all lots; no payoff is cut off
+    pub not-cut : (i : ℕ) → Among (w .buyers) 1 i → 65535 ≤ best w (lastPrices w) i
+    pub raises : sumOver (size (theAuction w)) (saleSets w) + sumOf (market w) (λ i. best w (lastPrices w) i - 65535) ≡ roundLimit w

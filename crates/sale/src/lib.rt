@@ -1,0 +1,137 @@
+// Sales by rounds of a lot sheet, and demand answers.
+ghost use mathlib.Core.Path.{_≡_};
+ghost use Prim.Native.Nat.{_^_, _≤_};
+ghost use Rattle.sheet.specs.Sheets.{asSheet};
+ghost use Rattle.sheet.specs.Questions.{fault};
+ghost use Rattle.sheet.specs.Steps.{Is};
+ghost use Rattle.owners.specs.Singles.{AtMost};
+ghost use Rattle.sale.specs.Rounds.{roundLimit};
+ghost use Rattle.sale.specs.Answers.{refusedDemand, refusedSale, demandAnswer, SaleSays};
+
+// A refusal, or a buyer's demand set and whether it is keen.
+#[repr(C)]
+pub struct Demand {
+    pub number: u8,
+    pub place: u32,
+    pub bundles: u16,
+    pub keen: bool,
+}
+
+// A refusal, or a settled sale.
+#[repr(C)]
+pub struct Sale {
+    pub number: u8,
+    pub place: u32,
+    pub buyers: u8,
+    pub lots: u8,
+    pub rounds: u32,
+    pub prices: [u16; 96],
+    pub owners: [u8; 4],
+    pub discounts: [u32; 6],
+    pub payments: [u32; 6],
+}
+
+fn refused_demand(number: u8, place: u32) -> Demand
+    ensures { λ r. ⌜ r ≡ refusedDemand (fault number place) ⌝ }
+{
+    Demand {
+        number,
+        place,
+        bundles: 0,
+        keen: false,
+    }
+}
+
+// What a buyer demands at prices brought from outside, sixteen to a buyer.
+pub fn buyer_demand(sheet: &[u8], buyer: u32, prices: [u16; 96]) -> Demand
+    ensures { λ r. ⌜ r ≡ demandAnswer (now (sheet .entry)) buyer prices ⌝ }
+{
+    let read = sheet::read_worths(sheet);
+    if read.number != 0 {
+        return refused_demand(read.number, read.place);
+    }
+    let i = buyer as usize;
+    if !sheet::is_between(read.buyers as usize, i) {
+        return refused_demand(10, 0);
+    }
+    let worths = read.worths;
+    let n = read.lots as usize;
+    Demand {
+        number: 0,
+        place: 0,
+        bundles: demand::demand_set(&worths, &prices, n, i),
+        keen: demand::is_keen(&worths, &prices, n, i),
+    }
+}
+
+fn power(n: usize) -> usize
+    requires { ⌜ n ≤ 4 ⌝ }
+    ensures { λ r. ⌜ Is (2 ^ n) r 16 ⌝ }
+{
+    1usize << n
+}
+
+// Question 9's sum, over buyers, of the worth of all lots together.
+fn round_limit(worths: &[u16; 96], m: usize, n: usize) -> u32
+    requires { ⌜ (m ≤ 6) × (1 ≤ n) × (n ≤ 4) × AtMost 9999 (now worths) ⌝ }
+    ensures { λ r. ⌜ Is (roundLimit (asSheet m n (now (worths .entry)))) r 59994 ⌝ }
+{
+    let top = power(n) - 1;
+    let mut total: u32 = 0;
+    let mut i: usize = 0;
+    while i < m {
+        total += demand::worth_of(worths, i + 1, top);
+        i += 1;
+    }
+    total
+}
+
+fn refused_sale(number: u8, place: u32) -> Sale
+    ensures { λ r. ⌜ r ≡ refusedSale (fault number place) ⌝ }
+{
+    Sale {
+        number,
+        place,
+        buyers: 0,
+        lots: 0,
+        rounds: 0,
+        prices: [0; 96],
+        owners: [0; 4],
+        discounts: [0; 6],
+        payments: [0; 6],
+    }
+}
+
+// Runs the sale of a sheet. Each round writes its set's number to the record's next byte.
+pub fn run_sale(sheet: &[u8], log: &mut [u8]) -> Sale
+    ensures { λ r. ⌜ SaleSays (now (sheet .entry)) (now (log .entry)) (now (log .exit)) r ⌝ }
+{
+    let read = sheet::read_worths(sheet);
+    if read.number != 0 {
+        return refused_sale(read.number, read.place);
+    }
+    let worths = read.worths;
+    let m = read.buyers as usize;
+    let n = read.lots as usize;
+    let limit = round_limit(&worths, m, n);
+    if log.len() < limit as usize {
+        return refused_sale(9, 0);
+    }
+    let s = rounds::run_rounds(&worths, m, n, log, limit);
+    let prices = s.prices;
+    let c = closing::close_sale(&worths, &prices, m, n);
+    let owners = c.owners;
+    let discounts = c.discounts;
+    let payments = c.payments;
+    Sale {
+        number: 0,
+        place: 0,
+        buyers: read.buyers,
+        lots: read.lots,
+        rounds: s.rounds,
+        prices,
+        owners,
+        discounts,
+        payments,
+    }
+}

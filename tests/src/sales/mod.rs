@@ -1,0 +1,24 @@
+//! The comparisons of the library's sales and demand answers with the Rust reckoning, group by
+//! group.
+
+use crate::generator::Generator;
+use crate::tally::Tally;
+
+mod demands;
+mod document;
+mod full;
+mod random;
+mod records;
+mod refusals;
+mod tables;
+
+/// Runs every group.
+pub fn compare(tally: &mut Tally, generator: &mut Generator) {
+    document::compare(tally);
+    tables::compare(tally, generator);
+    random::compare(tally, generator);
+    records::compare(tally, generator);
+    refusals::compare(tally, generator);
+    demands::compare(tally, generator);
+    full::compare(tally, generator);
+}
