@@ -1,8 +1,8 @@
 -- The ways out of a sale: a sheet that is refused, a record that is too short, and the settled sale. Assumes nothing.
 use mathlib.Core.Path.{_≡_, refl, sym, ap, _∙_}
-use mathlib.Core.Bool.{Bool, true, false}
+use mathlib.Core.Bool.{true, false}
 use mathlib.Core.List.{List}
-use Prim.Native.Nat.{ℕ, _-_, _^_, _≤_, _<_}
+use Prim.Native.Nat.{ℕ, _≤_, _<_}
 use native.Mathlib.Omega.{arith}
 use lib.Dec.{leb}
 use lib.ListN.{length, getD}
@@ -12,16 +12,14 @@ use Rattle.closing.specs.declared.Closing.{Closing}
 use Rattle.closing.specs.Charges.{saleClosing}
 use Rattle.rounds.specs.declared.State.{State}
 use Rattle.rounds.specs.Rounds.{Opens, Sold}
-use Rattle.sheet.specs.declared.Fault.{Fault}
 use Rattle.sheet.specs.declared.Worths.{Worths}
-use Rattle.sheet.specs.Sheets.{Sheet, asSheet, sheetOf}
+use Rattle.sheet.specs.Sheets.{asSheet, sheetOf}
 use Rattle.sheet.specs.Questions.{fault, accepts, sheetFault}
 use Rattle.sheet.specs.Answers.{worthsRead}
-use Rattle.sheet.specs.Claims.{Shape}
 use Rattle.sheet.proofs.Reading.{Accepted, read-refused, read-accepted}
 use Rattle.sale.specs.declared.Sale.{Sale}
 use Rattle.sale.specs.Rounds.{roundLimit, saleSets, lastPrices, ownersBy, discountFor, paymentFor}
-use Rattle.sale.specs.Answers.{refusedSale, settledSale, saleFault, saleAnswer, saleRecord, SaleSays}
+use Rattle.sale.specs.Answers.{refusedSale, settledSale, saleAnswer, saleRecord, SaleSays}
 use Rattle.sale.proofs.Instance.{shape, worths}
 use Rattle.sale.proofs.Demanding.{fault-number}
 

@@ -9,7 +9,6 @@ use Rattle.theory.specs.Sums.{Among}
 use Rattle.theory.specs.Lists.{_∈_, sumOver}
 use Rattle.theory.specs.Markets.{sumOf, total}
 use Rattle.theory.specs.Auction.{Minimal, size}
-use Rattle.theory.specs.Universal as universal
 use Rattle.owners.specs.Owners.{member}
 use Rattle.sheet.specs.Sheets.{Sheet}
 use Rattle.sale.specs.Words.{worthOf, priceAt, market, theAuction, economy, best, quote, demandSet, isKeen, revenue, fits, undersupplied, lowest}

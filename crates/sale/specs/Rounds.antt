@@ -26,7 +26,7 @@ module _ (w : Sheet) where
   startPrices = singles.startPrices
 
   -- "A round takes the undersupplied set of lowest number" until "no set is undersupplied": the sets of the rounds. Question 9's sum bounds how many are
-  -- looked for; that no more would come is `universal` of demand 2.
+  -- looked for; that no more would come is `last-uce` of demand 2.
   unfoldable pub saleSets : List ℕ
   saleSets = singles.saleSets (w .buyers) (w .lots) (w .worths) roundLimit
 
