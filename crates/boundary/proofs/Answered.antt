@@ -2,11 +2,11 @@
 use mathlib.Core.Path.{_≡_, sym, ap, _∙_}
 use mathlib.Core.List.{List}
 use Prim.Native.Nat.{ℕ}
-use Rattle.sheet.specs.declared.Field.{Field}
-use Rattle.sheet.specs.declared.FieldRead.{FieldRead}
-use Rattle.sheet.specs.Fields.{fieldRead, fieldFault, fieldValue}
+use Rattle.fields.specs.declared.Field.{Field}
+use Rattle.fields.specs.declared.FieldRead.{FieldRead}
+use Rattle.fields.specs.Fields.{fieldRead}
 use Rattle.boundary.specs.declared.FieldAnswer.{FieldAnswer}
-use Rattle.boundary.specs.Boundary.{fieldAnswer}
+use Rattle.boundary.specs.Boundary.{fieldFault, fieldValue, fieldAnswer}
 
 abbrev told : ℕ → Field → FieldAnswer
 told next f = record { next = next; number = fieldFault f; value = fieldValue f }

@@ -3,9 +3,9 @@ ghost use mathlib.Core.Path.{_≡_};
 ghost use Rattle.sheet.specs.Answers.{sheetRead, worthsRead};
 ghost use Rattle.sale.specs.Answers.{demandAnswer, SaleSays};
 ghost use Rattle.boundary.specs.Boundary.{fieldAnswer};
+use fields::Field;
 use sale::Demand;
 use sale::Sale;
-use sheet::Field;
 use sheet::Read;
 use sheet::Worths;
 
@@ -21,7 +21,7 @@ pub struct FieldAnswer {
 pub extern "C" fn hokewhuni_read_field(sheet: &[u8], at: usize) -> FieldAnswer
     ensures { λ r. ⌜ r ≡ fieldAnswer (now (sheet .entry)) at ⌝ }
 {
-    let r = sheet::read_field(sheet, at);
+    let r = fields::read_field(sheet, at);
     let f = r.field;
     match f {
         Field::Number(v) => FieldAnswer {
@@ -41,14 +41,14 @@ pub extern "C" fn hokewhuni_read_field(sheet: &[u8], at: usize) -> FieldAnswer
 pub extern "C" fn hokewhuni_read_sheet(sheet: &[u8]) -> Read
     ensures { λ r. ⌜ r ≡ sheetRead (now (sheet .entry)) ⌝ }
 {
-    sheet::read_sheet(sheet)
+    reading::read_sheet(sheet)
 }
 
 #[no_mangle]
 pub extern "C" fn hokewhuni_read_worths(sheet: &[u8]) -> Worths
     ensures { λ r. ⌜ r ≡ worthsRead (now (sheet .entry)) ⌝ }
 {
-    sheet::read_worths(sheet)
+    reading::read_worths(sheet)
 }
 
 // An array cannot cross by value, so the prices are lent.

@@ -13,7 +13,7 @@ use lib.Seq.{slice, slice-cons, slice-empty}
 use borrow.Author.Tests.{eqb-true, eq-eqb, ne-eqb}
 use Rattle.theory.specs.Sums.{when}
 use Rattle.theory.proofs.Tests.{same-test}
-use Rattle.sheet.proofs.Numbers.{pow-small}
+use Rattle.numbers.proofs.Numbers.{pow-small}
 use Rattle.owners.specs.Owners.{bundleFrom, single, lacks}
 use Rattle.owners.proofs.Owners.{bundle-none, bundle-lacks}
 

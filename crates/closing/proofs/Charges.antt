@@ -1,7 +1,7 @@
 -- Discounts and payments: at a place with nobody (`seat-absent`), and at a buyer's (`discount-is`, `payment-is`); and from the array of owners, which has
 -- zeros behind the owners, the payments of the definition (`closing-is`). Assumes nothing.
 use mathlib.Core.Path.{_≡_, refl, sym, ap, ap₂, _∙_}
-use mathlib.Core.Bool.{Bool, true, false}
+use mathlib.Core.Bool.{Bool, true}
 use mathlib.Core.Logic.{_≢_}
 use mathlib.Core.List.{List, [], _∷_, _++_, List·Memᴰ·head as here, List·Memᴰ·tail as there}
 use Prim.Native.Nat.{ℕ, zero, suc, _+_, _-_, _≤_, _<_}

@@ -8,7 +8,7 @@ ghost use lib.Dec.{eqb};
 ghost use lib.ListN.{take, getD, set};
 ghost use Rattle.theory.specs.Lists.{most};
 ghost use Rattle.theory.specs.Tests.{every};
-ghost use Rattle.sheet.specs.Steps.{Is};
+ghost use Rattle.numbers.specs.Numbers.{Is};
 ghost use Rattle.owners.specs.Owners.{bundleFrom, single, lacks};
 ghost use Rattle.demand.specs.Demands.{quoted};
 ghost use Rattle.closing.specs.Walks.{branch, four, Blank, Finds};

@@ -17,8 +17,9 @@ use Rattle.theory.specs.Auction.{Quote}
 use Rattle.theory.proofs.Sums.{sum-same, sum-part}
 use Rattle.theory.proofs.Lists.{most-same, most-reached, upTo-in, upTo-from}
 use Rattle.theory.proofs.Tests.{by-test}
-use Rattle.sheet.proofs.Numbers.{pow-small, pow-some}
-use Rattle.owners.specs.Owners.{bit, market, single, number}
+use Rattle.numbers.proofs.Numbers.{pow-small, pow-some}
+use Rattle.numbers.specs.Numbers.{bit}
+use Rattle.owners.specs.Owners.{market, single, number}
 use Rattle.owners.specs.Prices.{plain, price, payoff, best, quote, Priced}
 use Rattle.owners.proofs.Bits.{number-bit, number-below, plain-seated}
 use Rattle.owners.proofs.Prices.{keen-wants}

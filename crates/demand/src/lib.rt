@@ -2,23 +2,12 @@
 // Buyers are 1 to 6, lots at most 4, prices any. Worths are kept as prices are, and payoffs 65,535 higher, so that none is negative.
 ghost use mathlib.Core.Path.{_≡_};
 ghost use Prim.Native.Nat.{_≤_, _<_, _^_};
-ghost use Rattle.sheet.specs.Steps.{Is};
+ghost use Rattle.numbers.specs.Numbers.{Is};
 ghost use Rattle.owners.specs.Prices.{plain, price, payoff, best};
 ghost use Rattle.owners.specs.Singles.{worth};
 ghost use Rattle.demand.specs.Demands.{quoted, demandSet};
-
-fn wide(x: u16) -> u32
-    ensures { λ r. ⌜ Is x r 65535 ⌝ }
-{
-    x as u32
-}
-
-fn power(k: usize) -> usize
-    requires { ⌜ k ≤ 16 ⌝ }
-    ensures { λ r. ⌜ Is (2 ^ k) r 65536 ⌝ }
-{
-    1usize << k
-}
+use numbers::power;
+use numbers::wide;
 
 // "The empty bundle always costs 0", whatever stands at its place.
 pub fn price_of(prices: &[u16; 96], i: usize, s: usize) -> u32

@@ -12,8 +12,9 @@ use Rattle.theory.specs.Sums.{when, Among}
 use Rattle.theory.specs.Markets.{Market}
 use Rattle.theory.specs.Auction.{Numbered, Ranked}
 use Rattle.theory.proofs.Tests.{by-test, fails, itself, and-means}
-use Rattle.sheet.proofs.Subsets.{bit-half}
-use Rattle.owners.specs.Owners.{bit, number}
+use Rattle.numbers.proofs.Subsets.{bit-half}
+use Rattle.numbers.specs.Numbers.{bit}
+use Rattle.owners.specs.Owners.{number}
 use Rattle.owners.specs.Prices.{Seats, Seated, plain, seatMember}
 
 pub number-below : (k s : ℕ) (t : ℕ → Bool) → number k s t < 2 ^ k

@@ -12,7 +12,7 @@ use Rattle.theory.specs.Lists.{keep, upTo}
 use Rattle.theory.specs.Markets.{Market}
 use Rattle.theory.specs.Auction.{Economy, whole, lacking, Auction}
 use Rattle.theory.specs.Coalitions.{holder}
-pub use Rattle.sheet.specs.Sheets.{bit}
+pub use Rattle.numbers.specs.Numbers.{bit}
 
 -- the lists with one owner more in front, and with each of some owners
 abbrev pub withOwner : ℕ → List (List ℕ) → List (List ℕ)

@@ -11,7 +11,7 @@ use Rattle.theory.specs.Sums.{pick, when, Among}
 use Rattle.theory.specs.Lists.{most, tabulate, upTo}
 use Rattle.theory.specs.Markets.{Market, Table, Bidder, asks}
 use Rattle.theory.specs.Auction.{Quote}
-use Rattle.owners.specs.Owners.{bit}
+use Rattle.numbers.specs.Numbers.{bit}
 
 -- which row each bidder has, who sits at it, and whether anybody does
 pub record Seats : Type 0 where

@@ -22,7 +22,7 @@ use Rattle.owners.specs.Owners.{member}
 use Rattle.owners.specs.Prices.{plain}
 use Rattle.owners.specs.Quick.{left, rising, risenAt, raisedBy, roster}
 use Rattle.owners.specs.Singles.{worth, AtMost}
-use Rattle.rounds.specs.Supply.{shift, at, owed}
+use Rattle.supply.specs.Supply.{shift, at, owed}
 use Rattle.rounds.specs.Rounds.{lowestAt, stepAt}
 
 -- the payoff of a bundle that is not empty

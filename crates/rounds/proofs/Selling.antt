@@ -11,7 +11,6 @@ use lib.Pow.{pow-mono}
 use Rattle.theory.specs.Rounds.{choices, after}
 use Rattle.theory.specs.Coalitions.{Values, Roster, lowestBy}
 use Rattle.theory.proofs.Coalitions.{values-same}
-use Rattle.sheet.specs.Steps.{Is}
 use Rattle.owners.specs.Owners.{allocations, zeroFirst, single}
 use Rattle.owners.specs.Prices.{plain, zeros}
 use Rattle.owners.specs.Sales.{choose, sets, lastPrices, limit}
@@ -20,10 +19,10 @@ use Rattle.owners.specs.Singles.{worth, AtMost, Topped, sale, startPrices, sale
 use Rattle.owners.proofs.Quick.{quick-rounds, quick-last, quick-settled, roster-is, walk-values}
 use Rattle.owners.proofs.Singles.{limit-small, sale-hall, sale-worths, sale-settled}
 use Rattle.rounds.specs.declared.State.{State}
-use Rattle.rounds.specs.Supply.{shift, at}
-use Rattle.rounds.specs.Values.{Valued}
+use Rattle.supply.specs.Supply.{shift, at}
+use Rattle.coalitions.specs.Values.{Valued}
 use Rattle.rounds.specs.Rounds.{Known, Opens, Sold, lowestAt, stepAt}
-use Rattle.rounds.proofs.Walking.{zero-at}
+use Rattle.coalitions.proofs.Walking.{zero-at}
 use Rattle.rounds.proofs.Going.{Done}
 
 pub start-none : AtMost 0 startPrices
@@ -31,12 +30,12 @@ unfolding startPrices
 start-none k = omega (arith, zero-at 96 k)
 
 -- `all` is the number of bundles
-pub known : {m n f all : ℕ} {ws values o : List ℕ} → Opens m n ws f o → Valued m n ws values → Is (2 ^ n) all 64 → Known m all ws values
-known {n = n} opens valued is =
+pub known : {m n f all : ℕ} {ws values o : List ℕ} → Opens m n ws f o → Valued m n ws values → all ≡ 2 ^ n → Known m all ws values
+known {n = n} opens valued e =
     record {
       few = opens .few-buyers;
-      two = omega (arith, is .is, pow-mono {i = 1} {j = n} (opens .some-lots));
-      short = omega (arith, is .is, pow-mono {i = n} {j = 4} (opens .few-lots));
+      two = omega (arith, pow-mono {i = 1} {j = n} (opens .some-lots));
+      short = omega (arith, pow-mono {i = n} {j = 4} (opens .few-lots));
       worths = opens .small;
       totals = valued .small;
     }

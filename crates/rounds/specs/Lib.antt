@@ -1,4 +1,2 @@
--- What the code of the rounds answers: the table of coalition values (Values), the lowest undersupplied set by it (Supply), a round and a sale (Rounds).
-pub mod Values
-pub mod Supply
+-- What the code of a round and a sale answers.
 pub mod Rounds

@@ -12,7 +12,7 @@ use Rattle.owners.specs.Prices.{plain}
 use Rattle.owners.specs.Quick.{left, raisedBy, roster}
 use Rattle.owners.specs.Singles.{worth, AtMost, Topped, saleSets, salePrices, saleChoice, over}
 use Rattle.rounds.specs.declared.State.{State}
-use Rattle.rounds.specs.Supply.{shift, at}
+use Rattle.supply.specs.Supply.{shift, at}
 
 -- 1 more than the number of the lowest undersupplied set at the prices ps, by the values; `top` is the bundle of all lots
 unfoldable pub lowestAt : ℕ → ℕ → List ℕ → List ℕ → List ℕ → ℕ

@@ -2,21 +2,16 @@
 ghost use mathlib.Core.Path.{_≡_};
 ghost use Prim.Native.Nat.{ℕ, _+_, _-_, _*_, _/_, _≤_, _<_};
 ghost use lib.ListN.{length};
-ghost use Rattle.sheet.specs.Steps.{Is};
+ghost use Rattle.numbers.specs.Numbers.{Is};
 ghost use Rattle.owners.specs.Owners.{member};
 ghost use Rattle.owners.specs.Prices.{plain};
 ghost use Rattle.owners.specs.Quick.{left, rising, raisedBy};
 ghost use Rattle.owners.specs.Singles.{worth, AtMost, startPrices};
-ghost use Rattle.rounds.specs.Supply.{owed};
+ghost use Rattle.supply.specs.Supply.{owed};
 ghost use Rattle.rounds.specs.Rounds.{Known, lowestAt, Opens, RoundAt, Sold};
-
-mod coalitions;
-mod numbers;
-mod supply;
-
-use numbers::is_member;
 use numbers::power;
 use numbers::wide;
+use supply::is_member;
 
 // The state of a sale: its ninety-six prices, the number of rounds, and whether it is known to be settled.
 pub struct State {

@@ -11,8 +11,8 @@ use Rattle.sheet.specs.declared.Worths.{Worths}
 use Rattle.sheet.specs.Sheets.{sheetOf}
 use Rattle.sheet.specs.Questions.{fault, accepts, between, sheetFault}
 use Rattle.sheet.specs.Answers.{worthsRead}
-use Rattle.sheet.proofs.Reading.{Accepted, read-refused, read-accepted}
-use Rattle.sheet.proofs.Asking.{between-ends}
+use Rattle.reading.proofs.Reading.{Accepted, read-refused, read-accepted}
+use Rattle.reading.proofs.Asking.{between-ends}
 use Rattle.sale.specs.declared.Demand.{Demand}
 use Rattle.sale.specs.Answers.{refusedDemand, demandAnswer}
 use Rattle.sale.proofs.Instance.{shape}

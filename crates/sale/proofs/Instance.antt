@@ -16,11 +16,12 @@ use Rattle.owners.specs.Owners.{zeroFirst, lacks}
 use Rattle.owners.specs.Prices.{plain}
 use Rattle.owners.specs.Sales.{Hall, Worths}
 use Rattle.owners.proofs.Singles.{singles, singles-buyer, singles-worths}
-use Rattle.sheet.specs.Sheets.{bit, Sheet, sheetOf, worth}
+use Rattle.numbers.specs.Numbers.{bit}
+use Rattle.sheet.specs.Sheets.{Sheet, sheetOf, worth}
 use Rattle.sheet.specs.Questions.{sheetFault}
 use Rattle.sheet.specs.Claims.{Shape}
 use Rattle.sheet.proofs.Theorems.{accepted-shape, accepted-monotone}
-use Rattle.sheet.proofs.Numbers.{pow-some}
+use Rattle.numbers.proofs.Numbers.{pow-some}
 use Rattle.sale.specs.Words.{worthOf, allocations, theAuction}
 
 -- the bundle of all lots has every lot

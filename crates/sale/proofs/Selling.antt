@@ -16,7 +16,7 @@ use Rattle.sheet.specs.declared.Worths.{Worths}
 use Rattle.sheet.specs.Sheets.{asSheet, sheetOf}
 use Rattle.sheet.specs.Questions.{fault, accepts, sheetFault}
 use Rattle.sheet.specs.Answers.{worthsRead}
-use Rattle.sheet.proofs.Reading.{Accepted, read-refused, read-accepted}
+use Rattle.reading.proofs.Reading.{Accepted, read-refused, read-accepted}
 use Rattle.sale.specs.declared.Sale.{Sale}
 use Rattle.sale.specs.Rounds.{roundLimit, saleSets, lastPrices, ownersBy, discountFor, paymentFor}
 use Rattle.sale.specs.Answers.{refusedSale, settledSale, saleAnswer, saleRecord, SaleSays}

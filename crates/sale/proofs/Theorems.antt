@@ -30,7 +30,7 @@ use Rattle.owners.proofs.Economies.{economies-all, whole-in, lacking-in}
 use Rattle.owners.proofs.Sales.{priced, begins, settled-is, table-kept, sale-second}
 use Rattle.sheet.specs.Sheets.{Sheet, sheetOf}
 use Rattle.sheet.specs.Questions.{sheetFault}
-use Rattle.sheet.proofs.Numbers.{pow-some}
+use Rattle.numbers.proofs.Numbers.{pow-some}
 use Rattle.sale.specs.Words.{worthOf, priceAt, allocations, market, theAuction, economy, best, quote, revenue, fits, undersupplied, lowest}
 use Rattle.sale.specs.Rounds.{raised, roundLimit, startPrices, saleSets, pricesAfter, lastPrices, discountFor}
 use Rattle.sale.specs.Claims.{Prices, UCE, setAt, Demand-2}

@@ -1,9 +1,9 @@
 // Sales by rounds of a lot sheet, and demand answers.
 ghost use mathlib.Core.Path.{_≡_};
-ghost use Prim.Native.Nat.{_^_, _≤_};
+ghost use Prim.Native.Nat.{_≤_};
 ghost use Rattle.sheet.specs.Sheets.{asSheet};
 ghost use Rattle.sheet.specs.Questions.{fault};
-ghost use Rattle.sheet.specs.Steps.{Is};
+ghost use Rattle.numbers.specs.Numbers.{Is};
 ghost use Rattle.owners.specs.Singles.{AtMost};
 ghost use Rattle.sale.specs.Rounds.{roundLimit};
 ghost use Rattle.sale.specs.Answers.{refusedDemand, refusedSale, demandAnswer, SaleSays};
@@ -46,12 +46,12 @@ fn refused_demand(number: u8, place: u32) -> Demand
 pub fn buyer_demand(sheet: &[u8], buyer: u32, prices: [u16; 96]) -> Demand
     ensures { λ r. ⌜ r ≡ demandAnswer (now (sheet .entry)) buyer prices ⌝ }
 {
-    let read = sheet::read_worths(sheet);
+    let read = reading::read_worths(sheet);
     if read.number != 0 {
         return refused_demand(read.number, read.place);
     }
     let i = buyer as usize;
-    if !sheet::is_between(read.buyers as usize, i) {
+    if !reading::is_between(read.buyers as usize, i) {
         return refused_demand(10, 0);
     }
     let worths = read.worths;
@@ -64,19 +64,12 @@ pub fn buyer_demand(sheet: &[u8], buyer: u32, prices: [u16; 96]) -> Demand
     }
 }
 
-fn power(n: usize) -> usize
-    requires { ⌜ n ≤ 4 ⌝ }
-    ensures { λ r. ⌜ Is (2 ^ n) r 16 ⌝ }
-{
-    1usize << n
-}
-
 // Question 9's sum, over buyers, of the worth of all lots together.
 fn round_limit(worths: &[u16; 96], m: usize, n: usize) -> u32
     requires { ⌜ (m ≤ 6) × (1 ≤ n) × (n ≤ 4) × AtMost 9999 (now worths) ⌝ }
     ensures { λ r. ⌜ Is (roundLimit (asSheet m n (now (worths .entry)))) r 59994 ⌝ }
 {
-    let top = power(n) - 1;
+    let top = numbers::power(n) - 1;
     let mut total: u32 = 0;
     let mut i: usize = 0;
     while i < m {
@@ -106,7 +99,7 @@ fn refused_sale(number: u8, place: u32) -> Sale
 pub fn run_sale(sheet: &[u8], log: &mut [u8]) -> Sale
     ensures { λ r. ⌜ SaleSays (now (sheet .entry)) (now (log .entry)) (now (log .exit)) r ⌝ }
 {
-    let read = sheet::read_worths(sheet);
+    let read = reading::read_worths(sheet);
     if read.number != 0 {
         return refused_sale(read.number, read.place);
     }

@@ -15,8 +15,8 @@ use Rattle.sheet.specs.declared.Fault.{Fault}
 use Rattle.sheet.specs.Sheets.{lineLength, offset, Sheet, sheetOf, worth}
 use Rattle.sheet.specs.Questions.{ask, askEach, headGood, between, rightLength, malformed, tooLarge, falls, firstWrong, linesFault, sheetFault}
 use Rattle.sheet.specs.Claims.{GoodField, questions, Question, Malformed}
-use Rattle.sheet.proofs.Canonical.{no-number}
-use Rattle.sheet.proofs.Numbers.{pow-some}
+use Rattle.fields.proofs.Canonical.{no-number}
+use Rattle.numbers.proofs.Numbers.{pow-some}
 use Rattle.sheet.proofs.Lines.{none-wrong, all-right, field-told, good-means, malformed-means, large-means, falls-means}
 use Rattle.sheet.proofs.Valued.{empty-worth, small-worth, growing-worth}
 

@@ -1,12 +1,7 @@
--- Laws that belong to no one function.
-pub mod Scan
-pub mod Canonical
-pub mod Subsets
-pub mod Numbers
+-- The worths of a sheet (Places, Valued), what questions 6 to 8 find (Lines), the order of the questions (Faults), and what is known of every sheet
+-- (Theorems).
 pub mod Places
-pub mod Asking
 pub mod Lines
 pub mod Valued
 pub mod Faults
 pub mod Theorems
-pub mod Reading

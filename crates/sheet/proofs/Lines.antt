@@ -13,14 +13,15 @@ use lib.ListN.{length, take, drop, getD}
 use borrow.Author.Tests.{ltb-true, ltb-false, lt-ltb, leb-false, not-true}
 use Rattle.theory.specs.Tests.{_⊃_, least}
 use Rattle.theory.proofs.Tests.{by-test, fails, Means, means-via, itself, and-means, imp-means, not-means, eqb-means, leb-means, every-means, every-fails, least-none, least-found}
-use Rattle.sheet.specs.declared.Field.{Field}
-use Rattle.sheet.specs.declared.Field.the-variants.{Number, Faulty}
-use Rattle.sheet.specs.Fields.{Class, classOf, onClass, digitsFrom, zeroFrom, fieldFrom, fieldAt, good}
-use Rattle.sheet.specs.Fields.Class.{Blank, Zero, Digit, Foreign}
-use Rattle.sheet.specs.Sheets.{lineLength, offset, bit, Sheet, worth}
+use Rattle.fields.specs.declared.Field.{Field}
+use Rattle.fields.specs.declared.Field.the-variants.{Number, Faulty}
+use Rattle.fields.specs.Fields.{Class, classOf, onClass, digitsFrom, zeroFrom, fieldFrom, fieldAt, good}
+use Rattle.fields.specs.Fields.Class.{Blank, Zero, Digit, Foreign}
+use Rattle.sheet.specs.Sheets.{lineLength, offset, Sheet, worth}
+use Rattle.numbers.specs.Numbers.{bit}
 use Rattle.sheet.specs.Questions.{isField, malformed, tooLarge, falls, wrong, firstWrong}
 use Rattle.sheet.specs.Claims.{GoodField, Malformed, TooLarge, Falls, LeastPlace}
-use Rattle.sheet.proofs.Numbers.{pow-some, line-below, place-below}
+use Rattle.numbers.proofs.Numbers.{pow-some, line-below, place-below}
 
 -- places counted through the lines, z to a line
 module _ (z : ℕ) (some : 1 ≤ z) where

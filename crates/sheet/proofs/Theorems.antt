@@ -13,13 +13,15 @@ use borrow.Author.Tests.{eqb-true}
 use Rattle.theory.proofs.Tests.{by-test}
 use Rattle.theory.proofs.Rounds.{by-choice}
 use Rattle.sheet.specs.declared.Fault.{Fault}
-use Rattle.sheet.specs.Fields.{numberOf, columns}
-use Rattle.sheet.specs.Sheets.{lineLength, offset, bit, Sheet, numberAt, sheetOf, worth}
+use Rattle.fields.specs.Fields.{numberOf, columns}
+use Rattle.sheet.specs.Sheets.{lineLength, offset, Sheet, sheetOf, worth}
+use Rattle.numbers.specs.Numbers.{bit}
+use Rattle.fields.specs.Fields.{numberAt}
 use Rattle.sheet.specs.Questions.{fault, ask, askEach, headGood, between, rightLength, wrong, firstWrong, linesFault, sheetFault}
 use Rattle.sheet.specs.Claims.{GoodField, Question, Malformed, TooLarge, Falls, WrongAt, LeastPlace, Shape, Written}
-use Rattle.sheet.proofs.Numbers.{pow-small}
-use Rattle.sheet.proofs.Canonical.{field-canonical}
-use Rattle.sheet.proofs.Subsets.{subset-monotone}
+use Rattle.numbers.proofs.Numbers.{pow-small}
+use Rattle.fields.proofs.Canonical.{field-canonical}
+use Rattle.numbers.proofs.Subsets.{subset-monotone}
 use Rattle.sheet.proofs.Places.{worth-nobody, worth-nothing, worth-there}
 use Rattle.sheet.proofs.Lines.{first-place, malformed-means, large-means, falls-means}
 use Rattle.sheet.proofs.Valued.{worths-long, worth-at, worth-none, empty-worth, small-list, growing-worth}

@@ -10,7 +10,8 @@ use lib.Dec.{ltb}
 use lib.ListN.{length, getD, List·getD-eq-default}
 use borrow.Author.Tests.{ltb-true, ltb-false}
 use Rattle.theory.proofs.Tests.{by-test, fails}
-use Rattle.sheet.specs.Sheets.{bit, Sheet, asSheet, worthPlace, worthsIn, worth}
+use Rattle.numbers.specs.Numbers.{bit}
+use Rattle.sheet.specs.Sheets.{Sheet, asSheet, worthPlace, worthsIn, worth}
 use Rattle.sheet.specs.Questions.{firstWrong}
 use Rattle.theory.proofs.Lists.{tabulate-at, tabulate-length}
 use Rattle.sheet.proofs.Places.{worth-empty, worth-nobody, worth-nothing}

@@ -6,9 +6,10 @@ use mathlib.Core.Bool.{true}
 use mathlib.Core.List.{List, [], _∷_}
 use Prim.Native.Nat.{ℕ, suc, _+_, _-_, _*_, _^_, _≤_, _<_}
 use lib.ListN.{length, take, drop, getD}
-use Rattle.sheet.specs.declared.Field.the-variants.{Number, Faulty}
-use Rattle.sheet.specs.Fields.{fieldAt, columns}
-use Rattle.sheet.specs.Sheets.{bit, Sheet, sheetOf, worth}
+use Rattle.fields.specs.declared.Field.the-variants.{Number, Faulty}
+use Rattle.fields.specs.Fields.{fieldAt, columns}
+use Rattle.numbers.specs.Numbers.{bit}
+use Rattle.sheet.specs.Sheets.{Sheet, sheetOf, worth}
 
 -- where place c of line i begins: six columns to a field, and a line end to a line
 abbrev pub startOf : ℕ → ℕ → ℕ → ℕ

@@ -7,8 +7,9 @@ use lib.ListN.{length, getD}
 use Rattle.theory.specs.Sums.{pick}
 use Rattle.theory.specs.Tests.{_⊃_, every, least}
 use Rattle.sheet.specs.declared.Fault.{Fault}
-use Rattle.sheet.specs.Fields.{fieldAt, good}
-use Rattle.sheet.specs.Sheets.{lineLength, offset, bit, Sheet, sheetOf, worth}
+use Rattle.fields.specs.Fields.{fieldAt, good}
+use Rattle.sheet.specs.Sheets.{lineLength, offset, Sheet, sheetOf, worth}
+use Rattle.numbers.specs.Numbers.{bit}
 
 -- a refusal's number and place, 0 and 0 for none
 abbrev pub fault : ℕ → ℕ → Fault

@@ -1,13 +1,13 @@
 -- What the bytes of a lot sheet say: where each field stands, and the sheet's buyers, lots and worths (`sheetOf`), whether or not it is accepted.
 -- Lines of worths are counted from 0, so buyer i has line i - 1; the places of a line from 0, so bundle s has place s - 1.
-use mathlib.Core.Bool.{Bool, _&&_}
+use mathlib.Core.Bool.{_&&_}
 use mathlib.Core.List.{List}
 use Prim.Native.Nat.{ℕ, zero, suc, _+_, _-_, _*_, _/_, _%_, _^_}
-use lib.Dec.{eqb, ltb}
+use lib.Dec.{ltb}
 use lib.ListN.{getD}
 use Rattle.theory.specs.Sums.{when}
 use Rattle.theory.specs.Lists.{tabulate}
-use Rattle.sheet.specs.Fields.{fieldAt, numberOf}
+use Rattle.fields.specs.Fields.{numberAt}
 
 -- "Then each buyer has one line with the worths of bundles 1, 2, .. up to 2^n − 1": six columns each, and the line end
 abbrev pub lineLength : ℕ → ℕ
@@ -17,10 +17,6 @@ lineLength n = 6 * (2 ^ n - 1) + 1
 abbrev pub offset : ℕ → ℕ → ℕ → ℕ
 offset n i c = 13 + (i * lineLength n + 6 * c)
 
--- "A bundle's number is the sum of 2^(j − 1) over its lots j": whether it has lot j + 1
-abbrev pub bit : ℕ → ℕ → Bool
-bit j s = eqb (s / 2 ^ j % 2) 1
-
 -- buyers, lots, and ninety-six worths (valuations), sixteen to a buyer; those of the empty bundle, absent bundles and absent buyers are 0
 pub record Sheet : Type 0 where
   pub buyers : ℕ
@@ -29,9 +25,6 @@ pub record Sheet : Type 0 where
 
 abbrev pub asSheet : ℕ → ℕ → List ℕ → Sheet
 asSheet m n ws = record { buyers = m; lots = n; worths = ws }
-
-abbrev pub numberAt : ℕ → List ℕ → ℕ
-numberAt at b = numberOf (fieldAt at b)
 
 -- "the empty bundle is worth 0"
 abbrev pub worthIn : ℕ → List ℕ → ℕ → ℕ → ℕ

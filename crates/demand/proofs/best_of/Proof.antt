@@ -5,7 +5,7 @@ use Prim.Native.Nat.{max, _-_, _≤_, _^_}
 use native.Mathlib.Nat.{sub-zero}
 use native.Mathlib.Omega.{arith}
 use Rattle.theory.specs.Lists.{most, upTo}
-use Rattle.sheet.proofs.Numbers.{pow-small}
+use Rattle.numbers.proofs.Numbers.{pow-small}
 use Rattle.owners.specs.Prices.{plain, payoff, best}
 use Rattle.owners.specs.Singles.{worth}
 use Rattle.demand.proofs.Loops.{most-passed, most-done}

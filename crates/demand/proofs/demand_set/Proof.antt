@@ -2,7 +2,7 @@
 use mathlib.Core.Logic.{⊎-elim}
 use Prim.Native.Nat.{_-_, _^_, _<_}
 use native.Mathlib.Omega.{arith}
-use Rattle.sheet.proofs.Numbers.{pow-small}
+use Rattle.numbers.proofs.Numbers.{pow-small}
 use Rattle.demand.specs.Demands.{quoted, demandSet}
 use Rattle.demand.proofs.Loops.{power-small, Gathered, gathered-none, gathered-in, gathered-out, gathered-all}
 use Rattle.demand.proofs.demand_set.Statement.{statement}

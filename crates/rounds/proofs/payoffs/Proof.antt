@@ -3,7 +3,7 @@ use mathlib.Core.Path.{refl}
 use Prim.Native.Nat.{_-_, _≤_}
 use native.Mathlib.Omega.{arith}
 use Rattle.theory.proofs.Loops.{filled-none}
-use Rattle.rounds.proofs.Walking.{zero-at}
+use Rattle.coalitions.proofs.Walking.{zero-at}
 use Rattle.rounds.proofs.Rising.{Reading, read-next, read-end}
 use Rattle.rounds.proofs.payoffs.Statement.{statement}
 use Rattle.rounds.proofs.payoffs.Tie as tie

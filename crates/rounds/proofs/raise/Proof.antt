@@ -9,7 +9,7 @@ use Rattle.owners.specs.Owners.{member}
 use Rattle.owners.specs.Prices.{plain}
 use Rattle.owners.specs.Quick.{risenAt, raisedBy}
 use Rattle.owners.specs.Singles.{worth}
-use Rattle.rounds.specs.Supply.{owed}
+use Rattle.supply.specs.Supply.{owed}
 use Rattle.rounds.proofs.Rising.{risen-up, risen-not}
 use Rattle.rounds.proofs.raise.Statement.{statement}
 use Rattle.rounds.proofs.raise.Tie as tie

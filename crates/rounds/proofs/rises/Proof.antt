@@ -3,7 +3,7 @@ use mathlib.Core.Path.{ap}
 use Prim.Native.Nat.{_-_, _*_, _/_}
 use native.Mathlib.Omega.{arith}
 use lib.ListN.{getD, set}
-use Rattle.rounds.specs.Supply.{owed}
+use Rattle.supply.specs.Supply.{owed}
 use Rattle.rounds.proofs.Rising.{rise-far, rise-empty, rise-large, rise-other, rise-by}
 use borrow.Author.Needs.{needs}
 use Rattle.rounds.proofs.rises.Statement.{statement}

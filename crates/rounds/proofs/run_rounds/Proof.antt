@@ -47,7 +47,7 @@ round-requires c κs =
     let l = c .before .before .before .before .before in
     let p = l .before .before in
     let z = p .before .before .before in (
-      known (z .pre) (p .before .values .ensures) (p .power .ensures),
+      known (z .pre) (p .before .values .ensures) (p .power .ensures .is),
       simp (length-take, length-drop) (omega (arith, l .loop .inv .same, z .pre .room)),
       λ k. omega (arith, l .loop .inv .small k, z .pre .short),
       omega (arith, z .pre .short),
@@ -93,7 +93,7 @@ choice-requires : tie.Need-choice-requires Inv-loop μ-loop
 choice-requires c κs =
     let p = c .before .before .before .before .before .before .before in
     let z = p .before .before .before in
-    known (z .pre) (p .before .values .ensures) (p .power .ensures)
+    known (z .pre) (p .before .values .ensures) (p .power .ensures .is)
 
 same-length-2 : tie.Need-same-length-2 Inv-loop μ-loop
 same-length-2 c = c .before .before .before .before .before .before .loop .inv .same

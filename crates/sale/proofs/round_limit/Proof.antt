@@ -4,7 +4,7 @@ use Prim.Native.Nat.{_+_, _-_, _*_, _^_, _≤_}
 use native.Mathlib.Nat.{sub-zero, zero-add}
 use native.Mathlib.Omega.{arith}
 use Rattle.theory.specs.Sums.{sum}
-use Rattle.sheet.proofs.Numbers.{pow-some}
+use Rattle.numbers.proofs.Numbers.{pow-small, pow-some}
 use Rattle.sheet.specs.Sheets.{asSheet}
 use Rattle.sale.specs.Words.{worthOf}
 use Rattle.sale.proofs.Totals.{sum-more, sum-done, worth-small}
@@ -30,7 +30,7 @@ add-worth-of : tie.Need-add-worth-of Inv-loop μ-loop
 add-worth-of c = omega arith
 
 worth-of-requires : tie.Need-worth-of-requires Inv-loop μ-loop
-worth-of-requires c κs = (omega arith, omega arith, omega (arith, c .before .before .power .ensures .most))
+worth-of-requires c κs = (omega arith, omega arith, omega (arith, pow-small (c .before .before .before .args .n) (omega arith), c .before .before .power .ensures .is))
 
 worth : (c : tie.After-worth-of Inv-loop μ-loop) → c .worth-of .result ≤ 9999
 worth c =

@@ -1,0 +1,2 @@
+-- Laws of the walk that fills the table.
+pub mod Walking

@@ -1,0 +1,2 @@
+-- The table of coalition values.
+pub mod Values

@@ -1,0 +1,143 @@
+-- A field says v exactly where its six columns are those in which v is written (`field-canonical`).
+-- Before the last k digits of w the number so far is w / 10 ^ k, and they are the digits of w % 10 ^ k. Assumes nothing.
+use mathlib.Core.Path.{_≡_, refl, sym, ap, subst, _∙_}
+use mathlib.Core.Logic.{_↔_}
+use mathlib.Core.List.{List, [], _∷_}
+use Prim.Native.Nat.{ℕ, zero, suc, _+_, _-_, _*_, _/_, _%_, _^_, _≤_, _<_}
+use native.Mathlib.Nat.{pow-succ', one-le-pow, one-mul, mul-assoc, mul-left-comm, div-lt-iff-lt-mul, le-div-iff-mul-le}
+use native.Mathlib.Nat.{div-add-mod', mul-add-div-right, mod-lt, mod-mod-of-dvd, dvd-mul-left}
+use native.Mathlib.Omega.{arith}
+use native.Mathlib.Decide.{ℕ-discrete, decLe}
+use lib.Dec.{leb, ltb, lit<}
+use lib.ListN.{length, take, drop, length-take, length-drop}
+use borrow.Author.Tests.{ltb-true, ltb-false, le-leb, lt-ltb, le-ltb}
+use Rattle.theory.proofs.Tests.{by-test}
+use Rattle.fields.specs.declared.Field.the-variants.{Number, Faulty}
+use Rattle.fields.specs.Fields.{classOf, digitsFrom, fieldFrom, fieldAt, digits, columns}
+use Rattle.fields.specs.Fields.Class.{Foreign}
+use Rattle.fields.proofs.Scan.{class-digit, class-low, class-high}
+
+-- a byte is a blank, a digit, or foreign
+by-class : (P : ℕ → Type 0) (b : ℕ) → P 32 → ((d : ℕ) → d < 10 → P (48 + d)) → (classOf b ≡ Foreign → P b) → P b
+by-class P b blank digit foreign =
+    elim (ℕ-discrete b 32) [
+      | yes e ↦ rw e blank
+      | no n ↦
+          elim (decLe 48 b) [
+            | no m ↦ foreign (class-low b (omega arith) n)
+            | yes h ↦
+                elim (decLe b 57) [
+                  | no m ↦ foreign (class-high b (omega arith))
+                  | yes g ↦ let e : 48 + (b - 48) ≡ b = omega arith in subst P e (digit (b - 48) (omega arith))
+                ]
+          ]
+    ]
+
+pub no-number : {P : Type 0} {at v : ℕ} → Faulty at ≡ Number v → P
+no-number e = absurd (let z : _≡_ {A = ℕ} 0 1 = cc in omega arith)
+
+-- digits by division
+positive : (k : ℕ) → 1 ≤ 10 ^ k
+positive k = one-le-pow k 10 (lit< tt)
+
+digit-small : (k w : ℕ) → (w / 10 ^ k < 10) ↔ (w < 10 ^ suc k)
+digit-small k w = rw pow-succ' (div-lt-iff-lt-mul (positive k))
+
+digit-some : (k w : ℕ) → (1 ≤ w / 10 ^ k) ↔ (10 ^ k ≤ w)
+digit-some k w = rw one-mul at (le-div-iff-mul-le {x = 1} {y = w} (positive k))
+
+-- one more of the last digits
+module _ (k w : ℕ) where
+  next-small : w % 10 ^ suc k / 10 ^ k < 10
+  next-small = digit-small k (w % 10 ^ suc k) .1 (mod-lt w (positive (suc k)))
+
+  next-digit : 10 * (w / 10 ^ suc k) + w % 10 ^ suc k / 10 ^ k ≡ w / 10 ^ k
+  next-digit =
+      let q = w / 10 ^ suc k in
+      let whole : 10 * q * 10 ^ k + w % 10 ^ suc k ≡ w = rw (mul-assoc, mul-left-comm 10 q (10 ^ k), ← pow-succ') (div-add-mod' w (10 ^ suc k)) in
+      sym (mul-add-div-right (positive k) (10 * q) (w % 10 ^ suc k)) ∙ ap (λ x. x / 10 ^ k) whole
+
+  other-digits : w % 10 ^ suc k % 10 ^ k ≡ w % 10 ^ k
+  other-digits = mod-mod-of-dvd (10 ^ k) w (rw pow-succ' (dvd-mul-left (10 ^ k) 10))
+
+-- one digit, after others and as the first
+digit-late : (at v d : ℕ) (bs : List ℕ) → d < 10 → digitsFrom at v ((48 + d) ∷ bs) ≡ digitsFrom at (10 * v + d) bs
+digit-late at v zero bs h = refl
+digit-late at v (suc d) bs h = rw (digitsFrom, class-digit (48 + suc d) (omega arith) (omega arith)) (ap (λ n. digitsFrom at n bs) (omega arith))
+
+digit-first : (at d : ℕ) (bs : List ℕ) → 1 ≤ d → d < 10 → fieldFrom at ((48 + d) ∷ bs) ≡ digitsFrom at d bs
+digit-first at d bs l h = rw (fieldFrom, class-digit (48 + d) (omega arith) (omega arith)) (ap (λ n. digitsFrom at n bs) (omega arith))
+
+-- a number's last k digits, after the others
+digits-read : (at k w : ℕ) → digitsFrom at (w / 10 ^ k) (digits k (w % 10 ^ k)) ≡ Number w
+digits-read at zero w = ap Number (omega arith)
+digits-read at (suc k) w =
+    digit-late at (w / 10 ^ suc k) (w % 10 ^ suc k / 10 ^ k) (digits k (w % 10 ^ suc k % 10 ^ k)) (next-small k w)
+    ∙ rw (next-digit k w, other-digits k w) (digits-read at k w)
+
+digits-written : (at v w : ℕ) (l : List ℕ) → digitsFrom at v l ≡ Number w → (v ≡ w / 10 ^ length l) × (l ≡ digits (length l) (w % 10 ^ length l))
+digits-written at v w [] = λ e. let f : v ≡ w = cc in (omega arith, refl)
+digits-written at v w (b ∷ bs) =
+    let k = length bs in
+    by-class (λ b. digitsFrom at v (b ∷ bs) ≡ Number w → (v ≡ w / 10 ^ suc k) × (b ∷ bs ≡ digits (suc k) (w % 10 ^ suc k))) b
+    no-number
+    (λ d h e.
+    let (before, same) = digits-written at (10 * v + d) w bs (sym (digit-late at v d bs h) ∙ e) in
+    let last : w % 10 ^ suc k / 10 ^ k ≡ d = omega (arith, next-digit k w, next-small k w) in
+    (omega (arith, next-digit k w), rw (last, other-digits k w) (ap (λ l. (48 + d) ∷ l) same)))
+    (λ c e. no-number (rw (digitsFrom, c) at e))
+
+-- a number in k + 1 columns: after a blank, and with all its digits
+columns-blank : (k w : ℕ) → 1 ≤ k → w < 10 ^ k → columns (suc k) w ≡ 32 ∷ columns k w
+columns-blank k w some small = rw (le-leb 1 k some, lt-ltb w (10 ^ k) small)
+
+columns-full : (k w : ℕ) → 10 ^ k ≤ w → columns (suc k) w ≡ digits (suc k) w
+columns-full k w full = by-test (leb 1 k) (λ e. rw (e, le-ltb w (10 ^ k) full)) (λ e. rw e)
+
+full-read : (at k w : ℕ) → 10 ^ k ≤ w → w < 10 ^ suc k → fieldFrom at (columns (suc k) w) ≡ Number w
+full-read at k w full small =
+    ap (fieldFrom at) (columns-full k w full)
+    ∙ digit-first at (w / 10 ^ k) (digits k (w % 10 ^ k)) (digit-some k w .1 full) (digit-small k w .1 small)
+    ∙ digits-read at k w
+
+columns-read : (at k w : ℕ) → w < 10 ^ suc k → fieldFrom at (columns (suc k) w) ≡ Number w
+columns-read at zero zero h = refl
+columns-read at zero (suc w) h = full-read at 0 (suc w) (omega arith) h
+columns-read at (suc k) w h =
+    by-test (ltb w (10 ^ suc k))
+    (λ e. let small = ltb-true w (10 ^ suc k) e in ap (fieldFrom at) (columns-blank (suc k) w (omega arith) small) ∙ columns-read at k w small)
+    (λ e. full-read at (suc k) w (ltb-false w (10 ^ suc k) e) h)
+
+-- these columns are not none, and those in which w is written
+abbrev Columns : ℕ → List ℕ → Type 0
+Columns w l = (1 ≤ length l) × (w < 10 ^ length l) × (l ≡ columns (length l) w)
+
+first-written : (at w d : ℕ) (bs : List ℕ) → d < 10 → fieldFrom at ((48 + d) ∷ bs) ≡ Number w → Columns w ((48 + d) ∷ bs)
+first-written at w zero [] h e = let z : 0 ≡ w = cc in rw (← z) (omega arith, omega arith, refl)
+first-written at w zero (c ∷ cs) h e = no-number e
+first-written at w (suc d) bs h e =
+    let k = length bs in
+    let (first, same) = digits-written at (suc d) w bs (sym (digit-first at (suc d) bs (omega arith) h) ∙ e) in
+    (omega arith, digit-small k w .0 (omega arith), rw (columns-full k w (digit-some k w .0 (omega arith)), ← first) (ap (λ l. (48 + suc d) ∷ l) same))
+
+columns-written : (at w : ℕ) (l : List ℕ) → fieldFrom at l ≡ Number w → Columns w l
+columns-written at w [] = no-number
+columns-written at w (b ∷ bs) =
+    by-class (λ b. fieldFrom at (b ∷ bs) ≡ Number w → Columns w (b ∷ bs)) b
+    (λ e.
+    let (some, small, same) = columns-written at w bs e in
+    let less : w < 10 ^ suc (length bs) = omega arith in
+    (omega arith, less, ap (λ l. 32 ∷ l) same ∙ sym (columns-blank (length bs) w some small)))
+    (λ d. first-written at w d bs)
+    (λ c e. no-number (rw (fieldFrom, c) at e))
+
+pub field-canonical : (s : List ℕ) (at v : ℕ) → (fieldAt at s ≡ Number v) ↔ ((at + 6 ≤ length s) × (v ≤ 999999) × (take 6 (drop at s) ≡ columns 6 v))
+field-canonical s at v = (
+  λ e. by-test (ltb (length s) (at + 6)) (λ t. no-number (rw t at e)) (λ t.
+      let room = ltb-false (length s) (at + 6) t in
+      let six : length (take 6 (drop at s)) ≡ 6 = simp (length-take, length-drop) (omega arith) in
+      let (some, small, same) = columns-written at v (take 6 (drop at s)) (rw t at e) in
+      let small : v < 10 ^ 6 = rw six at small in
+      (room, omega arith, rw six at same)),
+  λ h. rw (le-ltb (length s) (at + 6) (h .0), h .2) (columns-read at 5 v (omega arith)),
+)

@@ -1,0 +1,29 @@
+-- `fields::field_good` meets its contract.
+use mathlib.Core.Path.{sym, ap}
+use borrow.Author.Needs.{needs}
+use Rattle.fields.specs.Fields.{good}
+use Rattle.fields.proofs.Scan.{field-read}
+use Rattle.fields.proofs.field_good.Statement.{statement}
+use Rattle.fields.proofs.field_good.Tie as tie
+
+read-field-requires : tie.Need-read-field-requires
+read-field-requires c κs = search needs
+
+enum-told : tie.Need-enum-told
+enum-told c = search needs
+
+enum-told-2 : tie.Need-enum-told-2
+enum-told-2 c = search needs
+
+returns : tie.Need-returns
+returns c =
+    let z = c .before .before .before .before .args in
+    sym (ap good (field-read (z .sheet .now) (z .at) _ _ (c .before .before .read-field .ensures) (c .enum-told .given .1)))
+
+returns-2 : tie.Need-returns-2
+returns-2 c =
+    let z = c .before .before .before .before .args in
+    sym (ap good (field-read (z .sheet .now) (z .at) _ _ (c .before .before .read-field .ensures) (c .enum-told2 .given .1)))
+
+pub field-good-spec : {M : Type 1} → statement M
+field-good-spec = tie.close (tie.spec read-field-requires enum-told enum-told-2 returns returns-2)

@@ -1,0 +1,2 @@
+-- The fields of a lot sheet.
+pub mod Fields

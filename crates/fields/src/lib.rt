@@ -1,0 +1,117 @@
+// Reads one field of a lot sheet: a number right-justified in six columns.
+ghost use mathlib.Core.Path.{_≡_};
+ghost use Prim.Native.Nat.{_+_, _≤_};
+ghost use lib.ListN.{length, take, drop, getD};
+ghost use Rattle.fields.specs.Fields.{fieldFrom, fieldAt, fieldRead, good, numberAt};
+
+// A field's number, or the faulty offset: that of the field's first byte.
+pub enum Field {
+    Number(u32),
+    Faulty(usize),
+}
+
+// What reading one field gives: the number or its fault, together with the next column.
+pub struct FieldRead {
+    pub next: usize,
+    pub field: Field,
+}
+
+// A digit as a wider number.
+fn wide(b: u8) -> u32
+    ensures { λ r. ⌜ r ≡ b ⌝ }
+{
+    b as u32
+}
+
+// The six columns of a field.
+fn scan_columns(sheet: &[u8], at: usize) -> Field
+    requires { ⌜ at + 6 ≤ length (now sheet) ⌝ }
+    ensures { λ r. ⌜ r ≡ fieldFrom at (take 6 (drop at (now (sheet .entry)))) ⌝ }
+{
+    let end = at + 6;
+    let mut started = false;
+    let mut value: u32 = 0;
+    let mut k = at;
+    while k < end {
+        let b = sheet[k];
+        match b {
+            32 => {
+                if started {
+                    return Field::Faulty(at);
+                }
+            }
+            48 => {
+                if !started {
+                    if k + 1 < end {
+                        return Field::Faulty(at);
+                    }
+                }
+                started = true;
+                value = 10 * value;
+            }
+            49..=57 => {
+                started = true;
+                value = 10 * value + wide(b - 48);
+            }
+            _ => {
+                return Field::Faulty(at);
+            }
+        }
+        k += 1;
+    }
+    if started {
+        Field::Number(value)
+    } else {
+        Field::Faulty(at)
+    }
+}
+
+// "Reading one field gives the number or its fault, together with the next column." Any column may be asked.
+pub fn read_field(sheet: &[u8], at: usize) -> FieldRead
+    ensures { λ r. ⌜ r ≡ fieldRead (now (sheet .entry)) at ⌝ }
+{
+    let len = sheet.len();
+    if 6 <= len {
+        if at <= len - 6 {
+            return FieldRead {
+                next: at + 6,
+                field: scan_columns(sheet, at),
+            };
+        }
+    }
+    FieldRead {
+        next: len,
+        field: Field::Faulty(at),
+    }
+}
+
+// The number of a field; 0 for a fault.
+pub fn field_number(sheet: &[u8], at: usize) -> u32
+    ensures { λ r. ⌜ r ≡ numberAt at (now (sheet .entry)) ⌝ }
+{
+    let r = read_field(sheet, at);
+    let f = r.field;
+    match f {
+        Field::Number(n) => n,
+        Field::Faulty(_) => 0,
+    }
+}
+
+// Whether a field is a number.
+pub fn field_good(sheet: &[u8], at: usize) -> bool
+    ensures { λ r. ⌜ r ≡ good (fieldAt at (now (sheet .entry))) ⌝ }
+{
+    let r = read_field(sheet, at);
+    let f = r.field;
+    match f {
+        Field::Number(_) => true,
+        Field::Faulty(_) => false,
+    }
+}
+
+// The byte at an offset; 0 past the end.
+pub fn byte_at(sheet: &[u8], at: usize) -> u8
+    ensures { λ r. ⌜ r ≡ getD (now (sheet .entry)) at 0 ⌝ }
+{
+    if at < sheet.len() { sheet[at] } else { 0 }
+}

@@ -1,0 +1,31 @@
+-- Powers, products and remainders. Assumes nothing.
+use mathlib.Core.Path.{_≡_}
+use Prim.Native.Nat.{ℕ, _*_, _/_, _%_, _^_, _<_, _≤_}
+use native.Mathlib.Nat.{one-mul, mod-eq-of-lt, mod-lt, pow-le-pow-right, mul-le-mul, div-lt-iff-lt-mul}
+use native.Mathlib.Omega.{arith}
+use lib.Dec.{lit<}
+use lib.Pow.{pow-mono}
+use Rattle.numbers.specs.Numbers.{Is}
+
+pub pow-small : (n : ℕ) → n ≤ 4 → 2 ^ n ≤ 16
+pow-small n h = pow-le-pow-right {n = 2} (lit< tt) h
+
+pub pow-some : (n : ℕ) → 1 ≤ 2 ^ n
+pow-some n = pow-le-pow-right {n = 2} (lit< tt) {i = 0} {j = n} (omega arith)
+
+pub shifted : (n : ℕ) → n ≤ 16 → 1 * 2 ^ n % 2 ^ 64 ≡ 2 ^ n
+shifted n h = rw one-mul (mod-eq-of-lt (omega (arith, pow-mono {i = n} {j = 16} h)))
+
+-- a power is no greater than a higher one
+pub no-higher : {n r c : ℕ} → Is (2 ^ n) r c → (k : ℕ) → n ≤ k → Is (2 ^ n) r (2 ^ k)
+no-higher {n = n} e k h = record { is = e .is; most = rw (e .is) (pow-mono {i = n} {j = k} h) }
+
+pub product-small : (i l a b : ℕ) → i ≤ a → l ≤ b → i * l ≤ a * b
+product-small i l a b h g = mul-le-mul h g
+
+-- place k of lines of z places each is on line k / z, at k % z
+pub line-below : (k m z : ℕ) → 1 ≤ z → k < m * z → k / z < m
+line-below k m z h g = div-lt-iff-lt-mul h .1 g
+
+pub place-below : (k z : ℕ) → 1 ≤ z → k % z < z
+place-below k z h = mod-lt k h

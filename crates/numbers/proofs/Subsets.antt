@@ -1,0 +1,45 @@
+-- Bundles as bit sets: worths that do not fall when one lot is added do not fall when several are, for any number of lots (`subset-monotone`).
+-- By halving: first the lots but the lowest, then the lowest. Assumes nothing.
+use mathlib.Core.Path.{_≡_, sym, ap, _∙_}
+use mathlib.Core.Bool.{true}
+use Prim.Native.Nat.{ℕ, zero, suc, _+_, _-_, _*_, _/_, _%_, _^_, _≤_, _<_}
+use native.Mathlib.Nat.{div-div-eq-div-mul, le-div-iff-mul-le, one-le-pow, pow-succ'}
+use native.Mathlib.Omega.{arith}
+use native.Mathlib.Decide.{ℕ-discrete}
+use lib.Dec.{lit<}
+use borrow.Author.Tests.{eqb-true, eqb-false, eq-eqb}
+use Rattle.theory.proofs.Tests.{by-test}
+use Rattle.numbers.specs.Numbers.{bit}
+
+pub bit-half : (j x : ℕ) → bit (suc j) x ≡ bit j (x / 2)
+bit-half j x = rw (pow-succ', ← div-div-eq-div-mul)
+
+pub bit-le : (j x : ℕ) → bit j x ≡ true → 2 ^ j ≤ x
+bit-le j x b =
+    let one : 1 ≤ x / 2 ^ j = omega (arith, eqb-true (x / 2 ^ j % 2) 1 b) in
+    omega (arith, le-div-iff-mul-le (one-le-pow j 2 (lit< tt)) .0 one)
+
+lowest-le : (s t : ℕ) → (bit 0 s ≡ true → bit 0 t ≡ true) → s % 2 ≤ t % 2
+lowest-le s t h =
+    by-test (bit 0 s) (λ b. omega (arith, eqb-true (t / 1 % 2) 1 (h b))) (λ b. omega (arith, eqb-false (s / 1 % 2) 1 b))
+
+pub subset-monotone : (n : ℕ) (w : ℕ → ℕ) → ((j s : ℕ) → j < n → s < 2 ^ n → bit j s ≡ true → w (s - 2 ^ j) ≤ w s) →
+    (s t : ℕ) → t < 2 ^ n → ((j : ℕ) → j < n → bit j s ≡ true → bit j t ≡ true) → s < 2 ^ n → w s ≤ w t
+subset-monotone zero w step s t k sub h = let e : s ≡ t = omega arith in omega (arith, ap w e)
+subset-monotone (suc n) w step s t k sub h =
+    let but-lowest : w (s % 2 + 2 * (s / 2)) ≤ w (s % 2 + 2 * (t / 2)) =
+    subset-monotone n (λ x. w (s % 2 + 2 * x))
+    (λ j x l m b.
+    let y = s % 2 + 2 * x in
+    let half : y / 2 ≡ x = omega arith in
+    let less : y - 2 ^ suc j ≡ s % 2 + 2 * (x - 2 ^ j) = omega (arith, bit-le j x b) in
+    rw less at (step (suc j) y (omega arith) (omega arith) (bit-half j y ∙ ap (bit j) half ∙ b)))
+    (s / 2) (t / 2) (omega arith) (λ j l b. sym (bit-half j t) ∙ sub (suc j) (omega arith) (bit-half j s ∙ b)) (omega arith) in
+    let whole : s % 2 + 2 * (s / 2) ≡ s = omega arith in
+    let le = lowest-le s t (sub 0 (omega arith)) in
+    elim (ℕ-discrete (s % 2) (t % 2)) [
+      | yes e ↦ let same : s % 2 + 2 * (t / 2) ≡ t = omega arith in omega (arith, ap w whole, ap w same)
+      | no e ↦
+          let less : t - 2 ^ 0 ≡ s % 2 + 2 * (t / 2) = omega arith in
+          omega (arith, ap w whole, ap w less, step 0 t (omega arith) k (eq-eqb (t / 1 % 2) 1 (omega arith)))
+    ]

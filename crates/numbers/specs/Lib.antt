@@ -1,0 +1,2 @@
+-- Bounds and bits.
+pub mod Numbers

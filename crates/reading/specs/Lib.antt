@@ -1,0 +1,2 @@
+-- What the functions on the way to an answer say.
+pub mod Steps

@@ -1,0 +1,2 @@
+-- The lowest undersupplied set, by coalition values.
+pub mod Supply
