@@ -138,8 +138,8 @@ module _ (choose : List ℕ → ℕ) (step : ℕ → List ℕ → List ℕ) (ps 
       let v : eqb (choose ps) 0 ≡ true = eq-eqb (choose ps) 0 (sym e ∙ z) in
       record { prices = rw v; rounds = rw v; settled = sym v; bytes = rw v }
 
-  pub round-some : (qs : List ℕ) → (x ≡ 0 → ⊥) → qs ≡ step (x - 1) ps →
-      Round choose step ps n o (set o 0 (x - 1)) (record { prices = qs; rounds = n + 1; settled = false })
-  round-some qs z q =
+  pub round-some : (qs o′ : List ℕ) → (x ≡ 0 → ⊥) → o′ ≡ set o 0 (x - 1) → qs ≡ step (x - 1) ps →
+      Round choose step ps n o o′ (record { prices = qs; rounds = n + 1; settled = false })
+  round-some qs o′ z w q =
       let v : eqb (choose ps) 0 ≡ false = ne-eqb (choose ps) 0 (λ w. z (e ∙ w)) in
-      record { prices = rw v (q ∙ ap (λ y. step (y - 1) ps) e); rounds = rw v; settled = sym v; bytes = rw (v, e) }
+      record { prices = rw v (q ∙ ap (λ y. step (y - 1) ps) e); rounds = rw v; settled = sym v; bytes = rw (v, w, e) }

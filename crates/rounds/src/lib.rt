@@ -1,7 +1,7 @@
 // The rounds of a sale, by the values of the sets of buyers.
 ghost use mathlib.Core.Path.{_≡_};
 ghost use Prim.Native.Nat.{ℕ, _+_, _-_, _*_, _/_, _≤_, _<_};
-ghost use lib.ListN.{length};
+ghost use lib.ListN.{length, set};
 ghost use Rattle.numbers.specs.Numbers.{Is};
 ghost use Rattle.owners.specs.Owners.{member};
 ghost use Rattle.owners.specs.Prices.{plain};
@@ -116,6 +116,14 @@ fn choice(
     supply::lowest(values, &payoffs, buyers)
 }
 
+// "The set's number is the next byte of the record": the first of the rest.
+fn note(rest: &mut [u8], number: usize)
+    requires { ⌜ (0 < length (now rest)) × (number < 64) ⌝ }
+    ensures { λ _. ⌜ now (rest .exit) ≡ set (now (rest .entry)) 0 number ⌝ }
+{
+    rest[0] = number as u8;
+}
+
 // A round, "handed the rest of the record": the set's number is its next byte.
 fn round(
     worths: &[u16; 96],
@@ -140,7 +148,7 @@ fn round(
         };
     }
     let set = x - 1;
-    rest[0] = set as u8;
+    note(rest, set);
     let new = raise(worths, &left, old, buyers, all, set);
     State {
         prices: new,

@@ -3,6 +3,7 @@ pub mod Instance
 pub mod Lists
 pub mod Theorems
 pub mod Present
+pub mod Claimed
 pub mod Demanding
 pub mod Totals
 pub mod Selling

@@ -1,18 +1,22 @@
--- What is claimed at any prices and of a sale: universal competitive equilibria as the paper has them, and demand 2 as one record.
+-- What is claimed of every accepted sheet (`Sales`): of its allocations, at any prices (`AtPrices`, with universal competitive equilibria as the paper has
+-- them), at every round (`AtRound`), and demand 2 as one record.
 use mathlib.Core.Path.{_≡_}
+use mathlib.Core.Logic.{_↔_}
 use mathlib.Core.Bool.{true, false}
 use mathlib.Core.List.{List}
 use Prim.Native.Nat.{ℕ, suc, _+_, _-_, _*_, _^_, _≤_, _<_}
 use lib.Dec.{eqb}
 use lib.ListN.{length, getD}
 use Rattle.theory.specs.Sums.{Among}
-use Rattle.theory.specs.Lists.{_∈_, sumOver}
+use Rattle.theory.specs.Lists.{_∈_, Ordered, sumOver}
 use Rattle.theory.specs.Markets.{sumOf, total}
 use Rattle.theory.specs.Auction.{Minimal, size}
-use Rattle.owners.specs.Owners.{member}
-use Rattle.sheet.specs.Sheets.{Sheet}
-use Rattle.sale.specs.Words.{worthOf, priceAt, market, theAuction, economy, best, quote, demandSet, isKeen, revenue, fits, undersupplied, lowest}
-use Rattle.sale.specs.Rounds.{raised, roundLimit, startPrices, saleSets, pricesAfter, lastPrices}
+use Rattle.owners.specs.Owners.{ComesBefore, lacks, member}
+use Rattle.owners.specs.Prices.{plain, read}
+use Rattle.sheet.specs.Sheets.{Sheet, sheetOf}
+use Rattle.sheet.specs.Questions.{sheetFault}
+use Rattle.sale.specs.Words.{worthOf, priceAt, allocations, market, theAuction, economy, best, quote, demandSet, isKeen, revenue, fits, undersupplied, lowest}
+use Rattle.sale.specs.Rounds.{raised, roundLimit, startPrices, saleSets, pricesAfter, lastPrices, discountFor}
 
 -- a price table that may come from outside
 pub record Prices (ps : List ℕ) : Type 0 where
@@ -44,6 +48,39 @@ module _ (w : Sheet) where
   abbrev pub UCE : List ℕ → Type 0
   UCE ps = (e : ℕ) → e ≤ w .buyers → (a : List ℕ) × Supports ps e a
 
+  -- the allocations are all owner lists of the sheet's lots, in order; an economy has those that give its absent buyer nothing
+  pub record Allocated : Type 0 where
+    pub allocations-all : (a : List ℕ) → (a ∈ allocations w) ↔ ((length a ≡ w .lots) × ((o : ℕ) → o ∈ a → o ≤ w .buyers))
+    pub allocations-ordered : Ordered (ComesBefore _<_) (allocations w)
+    pub economy-whole : economy w 0 ≡ allocations w
+    pub economy-all : (e : ℕ) → 1 ≤ e → (a : List ℕ) → (a ∈ economy w e) ↔ ((a ∈ allocations w) × (lacks e a ≡ true))
+
+  -- at any ninety-six prices
+  pub record AtPrices (ps : List ℕ) : Type 0 where
+    -- no set, the empty one included, is undersupplied exactly if the prices are a UCE
+    pub settled-iff-uce : (lowest w ps ≡ 0) ↔ UCE ps
+    -- the lowest undersupplied set is the least, and minimal (definition 11)
+    pub lowest-least : (set : ℕ) → lowest w ps ≡ suc set →
+        (undersupplied w ps set ≡ true) × ((other : ℕ) → other < set → undersupplied w ps other ≡ false)
+    pub lowest-minimal : (set : ℕ) → lowest w ps ≡ suc set → Minimal (market w) (quote w ps) (theAuction w .economies) (member set)
+    -- the revenue is reached and not passed; nothing is cut off in a discount
+    pub revenue-greatest : (e : ℕ) →
+        ((a : List ℕ) × (a ∈ economy w e) × (total (market w) (priceAt w ps) a ≡ revenue w ps e))
+        × ((c : List ℕ) → c ∈ economy w e → total (market w) (priceAt w ps) c ≤ revenue w ps e)
+    pub exact-discount : (i : ℕ) → Among (w .buyers) 1 i → discountFor w ps i + revenue w ps i ≡ revenue w ps 0
+    -- entries for absent buyers, absent bundles and the empty bundle are never read
+    pub reads-present : (qs : List ℕ) → Agree ps qs → SameAnswers ps qs
+
+  -- after k rounds
+  pub record AtRound (k : ℕ) : Type 0 where
+    -- the empty set is supplied, and each economy has an allocation that fits
+    pub empty-supplied : undersupplied w (pricesAfter w k) 0 ≡ false
+    pub fits-always : (e : ℕ) → e ≤ w .buyers → (a : List ℕ) × (a ∈ economy w e) × (fits w (pricesAfter w k) e a ≡ true)
+    -- each price is the worth less the payoff, cut off at 0, so at most the worth; those of absent buyers and bundles are 0
+    pub own-prices : (i s : ℕ) → Among (w .buyers) 1 i → s < 2 ^ w .lots → priceAt w (pricesAfter w k) i s ≡ worthOf w i s - (best w (pricesAfter w k) i - 65535)
+    pub price-bound : (i s : ℕ) → Among (w .buyers) 1 i → s < 2 ^ w .lots → priceAt w (pricesAfter w k) i s ≤ worthOf w i s
+    pub absent-zero : (j : ℕ) → j < 96 → read (plain (w .buyers)) (2 ^ w .lots) j ≡ false → getD (pricesAfter w k) j 0 ≡ 0
+
   -- the recorded set of round k + 1
   abbrev pub setAt : ℕ → ℕ
   setAt k = getD (saleSets w) k 0
@@ -67,3 +104,12 @@ module _ (w : Sheet) where
     -- one raise a member a round: the raises and the last payoffs make up the worths of all lots; no payoff is cut off
     pub not-cut : (i : ℕ) → Among (w .buyers) 1 i → 65535 ≤ best w (lastPrices w) i
     pub raises : sumOver (size (theAuction w)) (saleSets w) + sumOf (market w) (λ i. best w (lastPrices w) i - 65535) ≡ roundLimit w
+
+pub record Claimed (w : Sheet) : Type 0 where
+  pub lists : Allocated w
+  pub at-prices : (ps : List ℕ) → Prices ps → AtPrices w ps
+  pub at-round : (k : ℕ) → k ≤ length (saleSets w) → AtRound w k
+  pub second : Demand-2 w
+
+abbrev pub Sales : Type 0
+Sales = (b : List ℕ) → sheetFault b .number ≡ 0 → Claimed (sheetOf b)

@@ -6,7 +6,13 @@ ghost use Rattle.sheet.specs.Questions.{fault};
 ghost use Rattle.numbers.specs.Numbers.{Is};
 ghost use Rattle.owners.specs.Singles.{AtMost};
 ghost use Rattle.sale.specs.Rounds.{roundLimit};
+ghost use Rattle.sale.specs.Claims.{Sales};
 ghost use Rattle.sale.specs.Answers.{refusedDemand, refusedSale, demandAnswer, SaleSays};
+
+// Does nothing. Its contract has the theorems about sales, demand 2 among them, so that none can be dropped unseen.
+pub fn sales_hold()
+    ensures { λ _. ⌜ Sales ⌝ }
+{}
 
 // A refusal, or a buyer's demand set and whether it is keen.
 #[repr(C)]

@@ -61,15 +61,15 @@ fn gains(values: &[u32; 64], payoffs: &[u32; 6], buyers: usize, sets: usize) -> 
     next
 }
 
-// Whether the set k has none but buyers of an economy: that of all for 0, else that without the buyer of its number.
-fn is_inside(buyers: usize, economy: usize, k: usize) -> bool
-    requires { ⌜ (buyers ≤ 6) × (economy ≤ buyers) ⌝ }
-    ensures { λ r. ⌜ r ≡ inside (roster buyers) (presentIn economy) k ⌝ }
+// Whether the set k has none but buyers of an economy: that of all for 0, else that without the buyer `absent`.
+fn is_inside(buyers: usize, absent: usize, k: usize) -> bool
+    requires { ⌜ (buyers ≤ 6) × (absent ≤ buyers) ⌝ }
+    ensures { λ r. ⌜ r ≡ inside (roster buyers) (presentIn absent) k ⌝ }
 {
-    if economy == 0 {
+    if absent == 0 {
         return true;
     }
-    !is_member(k, economy)
+    !is_member(k, absent)
 }
 
 // The greatest gain of a set in an economy.

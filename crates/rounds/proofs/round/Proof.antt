@@ -27,31 +27,29 @@ returns c =
 sub-set : tie.Need-sub-set
 sub-set c = search needs
 
-cast-rest : tie.Need-cast-rest
-cast-rest c = search needs
-
-slice-write-rest : tie.Need-slice-write-rest
-slice-write-rest c = search needs
+note-requires : tie.Need-note-requires
+note-requires c κs = search needs
 
 raise-requires : tie.Need-raise-requires
 raise-requires c κs = search needs
 
-add-t23 : tie.Need-add-t23
-add-t23 c = search needs
+add-t24 : tie.Need-add-t24
+add-t24 c = search needs
 
 same-length : tie.Need-same-length
 same-length c = search needs
 
 returns-2 : tie.Need-returns-2
 returns-2 c =
-    let b = c .before .before in
+    let written = c .before .before .before .before in
+    let b = written .before .before in
     let w = b .before in
     let p = w .before .before in
     let z = p .before .before .before .before .args in
     let x = w .lowest .result in
     let e = chosen-at (z .buyers) (z .all - 1) (z .worths .now) (z .s .prices) (p .payoffs .result) (p .payoffs .ensures .1)
     (z .values .now) x (w .lowest .ensures .is) in
-    round-some _ _ (z .s .prices) (z .s .rounds) (z .rest .now) x e (c .raise .result) (b .if1 .left)
+    round-some _ _ (z .s .prices) (z .s .rounds) (z .rest .now) x e (c .raise .result) _ (b .if1 .left) (written .note .ensures)
     (stepped-at (z .buyers) (z .all - 1) (z .worths .now) (z .s .prices) (p .payoffs .result) (p .payoffs .ensures .1)
     (z .all) (x - 1) (c .raise .result) (c .raise .ensures))
 
@@ -64,9 +62,8 @@ round-spec =
     lowest-requires
     returns
     sub-set
-    cast-rest
-    slice-write-rest
+    note-requires
     raise-requires
-    add-t23
+    add-t24
     same-length
     returns-2)

@@ -1,0 +1,35 @@
+-- All that is claimed of sales, together (`sales-hold`). Assumes nothing.
+use mathlib.Core.Path.{refl}
+use Rattle.sheet.specs.Sheets.{sheetOf}
+use Rattle.sale.specs.Claims.{Sales}
+use Rattle.sale.proofs.Lists as lists
+use Rattle.sale.proofs.Present as present
+use Rattle.sale.proofs.Theorems as theorems
+
+pub sales-hold : Sales
+sales-hold b accepted =
+    let w = sheetOf b in
+    record {
+      lists = record {
+        allocations-all = lists.allocations-all w;
+        allocations-ordered = lists.allocations-ordered w;
+        economy-whole = refl;
+        economy-all = lists.economy-all w;
+      };
+      at-prices = λ ps prices. record {
+        settled-iff-uce = theorems.settled-iff-uce b accepted ps prices;
+        lowest-least = theorems.lowest-least b accepted ps;
+        lowest-minimal = theorems.lowest-minimal b accepted ps;
+        revenue-greatest = lists.revenue-greatest w ps;
+        exact-discount = theorems.exact-discount b accepted ps;
+        reads-present = present.reads-present w ps;
+      };
+      at-round = λ k l. record {
+        empty-supplied = theorems.empty-supplied b accepted k l;
+        fits-always = theorems.fits-always b accepted k l;
+        own-prices = theorems.own-prices b accepted k l;
+        price-bound = theorems.price-bound b accepted k l;
+        absent-zero = theorems.absent-zero b accepted k l;
+      };
+      second = theorems.demand-2 b accepted;
+    }
