@@ -59,6 +59,17 @@ pub struct Sale {
     pub payments: [u32; 6],
 }
 
+/// A refusal's number and place, or the direct way's greatest total, first list and payments.
+#[repr(C)]
+#[derive(Clone, Debug, PartialEq, Eq)]
+pub struct Direct {
+    pub number: u8,
+    pub place: u32,
+    pub total: u32,
+    pub owners: [u8; 4],
+    pub payments: [u32; 6],
+}
+
 // SAFETY: a slice crosses as pointer and length, an array as a pointer, an answer as the `repr(C)`
 // struct above. The entries are proved to answer every sheet, column, buyer and record, reading
 // what is lent alone and writing in the lent record alone.
@@ -69,6 +80,7 @@ unsafe extern "C" {
     safe fn hokewhuni_read_worths(sheet: &[u8]) -> Worths;
     safe fn hokewhuni_buyer_demand(sheet: &[u8], buyer: u32, prices: &[u16; 96]) -> Demand;
     safe fn hokewhuni_run_sale(sheet: &[u8], record: &mut [u8]) -> Sale;
+    safe fn hokewhuni_direct_way(sheet: &[u8]) -> Direct;
 }
 
 /// The library's answer to questions 1 to 8.
@@ -94,4 +106,9 @@ pub fn buyer_demand(sheet: &[u8], buyer: u32, prices: &[u16; 96]) -> Demand {
 /// The library's sale of a sheet, its rounds written in the record.
 pub fn run_sale(sheet: &[u8], record: &mut [u8]) -> Sale {
     hokewhuni_run_sale(sheet, record)
+}
+
+/// The library's answer by the direct way, which uses no prices.
+pub fn direct_way(sheet: &[u8]) -> Direct {
+    hokewhuni_direct_way(sheet)
 }

@@ -2,7 +2,9 @@
 ghost use mathlib.Core.Path.{_≡_};
 ghost use Rattle.sheet.specs.Answers.{sheetRead, worthsRead};
 ghost use Rattle.sale.specs.Answers.{demandAnswer, SaleSays};
+ghost use Rattle.direct.specs.Answers.{directAnswer};
 ghost use Rattle.boundary.specs.Boundary.{fieldAnswer};
+use direct::Direct;
 use fields::Field;
 use sale::Demand;
 use sale::Sale;
@@ -56,12 +58,19 @@ pub extern "C" fn hokewhuni_read_worths(sheet: &[u8]) -> Worths
 pub extern "C" fn hokewhuni_buyer_demand(sheet: &[u8], buyer: u32, prices: &[u16; 96]) -> Demand
     ensures { λ r. ⌜ r ≡ demandAnswer (now (sheet .entry)) buyer (now (prices .entry)) ⌝ }
 {
-    sale::buyer_demand(sheet, buyer, *prices)
+    selling::buyer_demand(sheet, buyer, *prices)
 }
 
 #[no_mangle]
 pub extern "C" fn hokewhuni_run_sale(sheet: &[u8], log: &mut [u8]) -> Sale
     ensures { λ r. ⌜ SaleSays (now (sheet .entry)) (now (log .entry)) (now (log .exit)) r ⌝ }
 {
-    sale::run_sale(sheet, log)
+    selling::run_sale(sheet, log)
+}
+
+#[no_mangle]
+pub extern "C" fn hokewhuni_direct_way(sheet: &[u8]) -> Direct
+    ensures { λ r. ⌜ r ≡ directAnswer (now (sheet .entry)) ⌝ }
+{
+    direct::direct_way(sheet)
 }

@@ -16,10 +16,11 @@ use Rattle.theory.proofs.Tests.{every-same}
 use Rattle.owners.specs.Owners.{bundleFrom, single, allocations, zeroFirst}
 use Rattle.demand.specs.Demands.{quoted}
 use Rattle.demand.proofs.Demands.{keen-empty}
-use Rattle.closing.specs.declared.Found.{Found}
-use Rattle.closing.specs.Walks.{branch, four, Finds}
-use Rattle.closing.specs.Closings.{takings, revenueOf, closesSale, closingOwners}
-use Rattle.closing.proofs.Searches.{first-none}
+use Rattle.totals.specs.declared.Found.{Found}
+use Rattle.totals.specs.Walks.{branch, four, Finds}
+use Rattle.totals.specs.Totals.{totalAt, greatestAt}
+use Rattle.closing.specs.Closings.{closesSale, closingOwners}
+use Rattle.totals.proofs.Searches.{first-none}
 
 every-both : (k s : ℕ) (t u : ℕ → Bool) → (every k s t && every k s u) ≡ every k s (λ i. t i && u i)
 every-both zero s t u = refl
@@ -53,7 +54,7 @@ module _ (m n : ℕ) (ws ps : List ℕ) (few : m ≤ 6) (short : n ≤ 4) where
   served a = every m 1 (λ i. q .wants i (bundleFrom single 0 i a))
 
   abbrev reaches : List ℕ → Bool
-  reaches a = eqb (takings m ps a) (revenueOf m n ps 0)
+  reaches a = eqb (totalAt m ps a) (greatestAt m n ps 0)
 
   demanded : (i s : ℕ) → Among m 1 i → ((eqb s 0 || q .wants i s) && (q .keen i ⊃ q .wants i s)) ≡ q .wants i s
   demanded i s r =
@@ -65,14 +66,14 @@ module _ (m n : ℕ) (ws ps : List ℕ) (few : m ≤ 6) (short : n ≤ 4) where
       and-assoc (reaches a) _ _ ∙ ap (λ x. reaches a && x) (every-both m 1 _ _ ∙ every-same m 1 _ _ (λ i r. demanded i (bundleFrom single 0 i a) r))
 
   -- the test of one list: `paid` are its takings, and `top` is the revenue
-  module _ (a : List ℕ) (paid top : ℕ) (ep : paid ≡ takings m ps a) (et : top ≡ revenueOf m n ps 0) where
+  module _ (a : List ℕ) (paid top : ℕ) (ep : paid ≡ totalAt m ps a) (et : top ≡ greatestAt m n ps 0) where
     pub closes-short : (paid ≡ top → ⊥) → false ≡ closesSale m n ws ps a
     closes-short h =
-        sym (closes-demanded a ∙ ap (λ x. x && served a) (ne-eqb (takings m ps a) (revenueOf m n ps 0) (λ e. h (ep ∙ e ∙ sym et))))
+        sym (closes-demanded a ∙ ap (λ x. x && served a) (ne-eqb (totalAt m ps a) (greatestAt m n ps 0) (λ e. h (ep ∙ e ∙ sym et))))
 
     pub closes-served : paid ≡ top → (r : Bool) → r ≡ served a → r ≡ closesSale m n ws ps a
     closes-served h r e =
-        e ∙ sym (closes-demanded a ∙ ap (λ x. x && served a) (eq-eqb (takings m ps a) (revenueOf m n ps 0) (sym ep ∙ h ∙ et)))
+        e ∙ sym (closes-demanded a ∙ ap (λ x. x && served a) (eq-eqb (totalAt m ps a) (greatestAt m n ps 0) (sym ep ∙ h ∙ et)))
 
   -- a search from no owner on
   module _ (os : List ℕ) (start : ℕ) (z : start ≡ 0) (r : Found) (h : Finds (closesSale m n ws ps) (branch m (take start os) n) r) where

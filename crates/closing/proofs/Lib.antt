@@ -1,7 +1,3 @@
--- Laws that belong to no one function.
-pub mod Walks
-pub mod Bundles
-pub mod Revenues
-pub mod Searches
+-- Laws of what closes a sale (Closings), and of discounts and payments (Charges).
 pub mod Closings
 pub mod Charges

@@ -1,25 +1,17 @@
--- Discounts and payments at the closing, and the closing whole (`saleClosing`). Offers `seats`, six places, one to a buyer. The differences are cut off at 0,
+-- Discounts and payments at the closing, and the closing whole (`saleClosing`). The differences are cut off at 0,
 -- as the definitions of theory and owners have them.
 use mathlib.Core.List.{List, []}
-use Prim.Native.Nat.{ℕ, suc, _-_, _^_}
-use lib.Dec.{ltb}
-use Rattle.theory.specs.Sums.{when}
-use Rattle.theory.specs.Lists.{keep, tabulate}
+use Prim.Native.Nat.{ℕ, _-_, _^_}
+use Rattle.theory.specs.Lists.{keep}
 use Rattle.theory.specs.Markets.{discount}
 use Rattle.owners.specs.Owners.{allocations, zeroFirst, lacks, market, single, bundleFrom, auction}
 use Rattle.owners.specs.Prices.{plain, price}
 use Rattle.owners.specs.Sales.{payment}
 use Rattle.owners.specs.Singles.{worth}
 use Rattle.closing.specs.declared.Closing.{Closing}
-use Rattle.closing.specs.Walks.{four}
+use Rattle.totals.specs.Walks.{four}
+use Rattle.totals.specs.Seats.{seats}
 use Rattle.closing.specs.Closings.{closingOwners}
-
--- place k is buyer k + 1's; "those of absent buyers are 0"
-abbrev pub seat : ℕ → (ℕ → ℕ) → ℕ → ℕ
-seat m f k = when (ltb k m) (f (suc k))
-
-unfoldable pub seats : ℕ → (ℕ → ℕ) → List ℕ
-seats m f = tabulate 6 0 (seat m f)
 
 -- "Buyer i's discount is the revenue of all buyers less the revenue without i"
 abbrev pub discountOf : ℕ → ℕ → List ℕ → ℕ → ℕ

@@ -1,4 +1,3 @@
--- The closing by a walk over the owner lists.
-pub mod Walks
+-- The closing: owners, discounts, payments.
 pub mod Closings
 pub mod Charges

@@ -1,129 +1,27 @@
-// The closing at prices given as ninety-six numbers, sixteen to a buyer: an economy's revenue, the owners, discounts and payments.
-// Revenue and owners come from a walk over the owner lists: each call gives one lot an owner, and the number of lots left falls.
-// Buyers are at most 6, lots at most 4, prices any.
+// The closing at prices given as ninety-six numbers, sixteen to a buyer: the owners, discounts and payments. The owners come from a walk over the owner
+// lists: each call gives one lot an owner, and the number of lots left falls. Buyers are at most 6, lots at most 4, prices any.
 ghost use mathlib.Core.Path.{_≡_};
-ghost use mathlib.Core.Bool.{_||_};
-ghost use Prim.Native.Nat.{_-_, _≤_, _<_};
-ghost use lib.Dec.{eqb};
-ghost use lib.ListN.{take, getD, set};
-ghost use Rattle.theory.specs.Lists.{most};
+ghost use Prim.Native.Nat.{_-_, _≤_};
+ghost use lib.ListN.{take, getD};
 ghost use Rattle.theory.specs.Tests.{every};
-ghost use Rattle.numbers.specs.Numbers.{Is};
-ghost use Rattle.owners.specs.Owners.{bundleFrom, single, lacks};
+ghost use Rattle.owners.specs.Owners.{bundleFrom, single};
 ghost use Rattle.demand.specs.Demands.{quoted};
-ghost use Rattle.closing.specs.Walks.{branch, four, Blank, Finds};
-ghost use Rattle.closing.specs.Closings.{takings, takingsIn, revenueOf, closesSale, closingOwners};
-ghost use Rattle.closing.specs.Charges.{seat, seats, discountOf, lessDiscount, saleClosing};
+ghost use Rattle.totals.specs.Walks.{branch, four, Blank, Finds};
+ghost use Rattle.totals.specs.Totals.{greatestAt};
+ghost use Rattle.totals.specs.Seats.{seat, seats};
+ghost use Rattle.closing.specs.Closings.{closesSale, closingOwners};
+ghost use Rattle.closing.specs.Charges.{discountOf, lessDiscount, saleClosing};
+use totals::Found;
+use totals::bundle_of;
+use totals::greatest_without;
+use totals::total_of;
+use totals::with_owner;
 
 // Owners, discounts and payments at the closing; those of absent buyers are 0.
 pub struct Closing {
     pub owners: [u8; 4],
     pub discounts: [u32; 6],
     pub payments: [u32; 6],
-}
-
-// What a walk for the first list that passes finds: whether there is one, and which.
-struct Found {
-    found: bool,
-    owners: [u8; 4],
-}
-
-fn owner(x: u8) -> usize
-    ensures { λ r. ⌜ r ≡ x ⌝ }
-{
-    x as usize
-}
-
-// Buyer i's bundle in the first lots of an owner list.
-pub fn bundle_of(owners: [u8; 4], lots: usize, i: usize) -> usize
-    requires { ⌜ lots ≤ 4 ⌝ }
-    ensures { λ r. ⌜ Is (bundleFrom single 0 i (take lots owners)) r 15 ⌝ }
-{
-    let mut s: usize = 0;
-    let mut share: usize = 1;
-    let mut j: usize = 0;
-    while j < lots {
-        if owner(owners[j]) == i {
-            s += share;
-        }
-        share = 2 * share;
-        j += 1;
-    }
-    s
-}
-
-fn takings_of(prices: &[u16; 96], buyers: usize, lots: usize, owners: [u8; 4]) -> u32
-    requires { ⌜ (buyers ≤ 6) × (lots ≤ 4) ⌝ }
-    ensures { λ r. ⌜ Is (takings buyers (now (prices .entry)) (take lots owners)) r 393210 ⌝ }
-{
-    let mut paid: u32 = 0;
-    let mut i: usize = 1;
-    while i <= buyers {
-        let s = bundle_of(owners, lots, i);
-        paid += demand::price_of(prices, i, s);
-        i += 1;
-    }
-    paid
-}
-
-// A copy of an owner list, with one place changed.
-fn with_owner(owners: [u8; 4], lot: usize, o: usize) -> [u8; 4]
-    requires { ⌜ (lot < 4) × (o ≤ 6) ⌝ }
-    ensures { λ r. ⌜ r ≡ set owners lot o ⌝ }
-{
-    let mut next = owners;
-    next[lot] = o as u8;
-    next
-}
-
-// Whether an owner list is one of the economy without `absent`, or of all for 0.
-fn in_economy(lots: usize, absent: usize, owners: [u8; 4]) -> bool
-    requires { ⌜ lots ≤ 4 ⌝ }
-    ensures { λ r. ⌜ r ≡ (eqb absent 0 || lacks absent (take lots owners)) ⌝ }
-{
-    if absent == 0 {
-        return true;
-    }
-    bundle_of(owners, lots, absent) == 0
-}
-
-// The greatest takings in the economy of the lists that go on from the owners of the lots before the last `left`.
-fn greatest_takings(
-    prices: &[u16; 96],
-    buyers: usize,
-    lots: usize,
-    absent: usize,
-    owners: [u8; 4],
-    left: usize,
-) -> u32
-    requires { ⌜ (buyers ≤ 6) × (lots ≤ 4) × (left ≤ lots) ⌝ }
-    ensures { λ r. ⌜ Is (most (takingsIn buyers (now (prices .entry)) absent) (branch buyers (take (lots - left) owners) left)) r 393210 ⌝ }
-{
-    if left == 0 {
-        if in_economy(lots, absent, owners) {
-            return takings_of(prices, buyers, lots, owners);
-        }
-        return 0;
-    }
-    let mut top: u32 = 0;
-    let mut o: usize = 0;
-    while o <= buyers {
-        let more = with_owner(owners, lots - left, o);
-        let t = greatest_takings(prices, buyers, lots, absent, more, left - 1);
-        if top < t {
-            top = t;
-        }
-        o += 1;
-    }
-    top
-}
-
-// "An economy's revenue is the greatest sum of prices over its allocations"; the economy lacks a buyer, or nobody for 0.
-pub fn revenue(prices: &[u16; 96], buyers: usize, lots: usize, absent: usize) -> u32
-    requires { ⌜ (buyers ≤ 6) × (lots ≤ 4) ⌝ }
-    ensures { λ r. ⌜ Is (revenueOf buyers lots (now (prices .entry)) absent) r 393210 ⌝ }
-{
-    greatest_takings(prices, buyers, lots, absent, [0; 4], lots)
 }
 
 // Whether every buyer demands what it owns.
@@ -158,10 +56,10 @@ fn closes(
     top: u32,
     owners: [u8; 4],
 ) -> bool
-    requires { ⌜ (buyers ≤ 6) × (lots ≤ 4) × (top ≡ revenueOf buyers lots (now prices) 0) ⌝ }
+    requires { ⌜ (buyers ≤ 6) × (lots ≤ 4) × (top ≡ greatestAt buyers lots (now prices) 0) ⌝ }
     ensures { λ r. ⌜ r ≡ closesSale buyers lots (now (worths .entry)) (now (prices .entry)) (take lots owners) ⌝ }
 {
-    if takings_of(prices, buyers, lots, owners) != top {
+    if total_of(prices, buyers, lots, owners) != top {
         return false;
     }
     all_served(worths, prices, buyers, lots, owners)
@@ -177,7 +75,7 @@ fn first_closing(
     owners: [u8; 4],
     left: usize,
 ) -> Found
-    requires { ⌜ (buyers ≤ 6) × (lots ≤ 4) × (left ≤ lots) × (top ≡ revenueOf buyers lots (now prices) 0) × Blank (lots - left) owners ⌝ }
+    requires { ⌜ (buyers ≤ 6) × (lots ≤ 4) × (left ≤ lots) × (top ≡ greatestAt buyers lots (now prices) 0) × Blank (lots - left) owners ⌝ }
     ensures { λ r. ⌜ Finds (closesSale buyers lots (now (worths .entry)) (now (prices .entry))) (branch buyers (take (lots - left) owners) left) r ⌝ }
 {
     if left == 0 {
@@ -204,7 +102,7 @@ pub fn first_list(worths: &[u16; 96], prices: &[u16; 96], buyers: usize, lots: u
     requires { ⌜ (buyers ≤ 6) × (lots ≤ 4) ⌝ }
     ensures { λ r. ⌜ r ≡ four (closingOwners buyers lots (now (worths .entry)) (now (prices .entry))) ⌝ }
 {
-    let top = revenue(prices, buyers, lots, 0);
+    let top = greatest_without(prices, buyers, lots, 0);
     let f = first_closing(worths, prices, buyers, lots, top, [0; 4], lots);
     if f.found {
         return f.owners;
@@ -213,25 +111,25 @@ pub fn first_list(worths: &[u16; 96], prices: &[u16; 96], buyers: usize, lots: u
 }
 
 // "Buyer i's discount is the revenue of all buyers less the revenue without i"; place k is buyer k + 1's.
-fn discount_at(prices: &[u16; 96], buyers: usize, lots: usize, k: usize) -> u32
-    requires { ⌜ (buyers ≤ 6) × (lots ≤ 4) ⌝ }
+fn discount_at(prices: &[u16; 96], buyers: usize, lots: usize, all: u32, k: usize) -> u32
+    requires { ⌜ (buyers ≤ 6) × (lots ≤ 4) × (all ≡ greatestAt buyers lots (now prices) 0) ⌝ }
     ensures { λ r. ⌜ r ≡ seat buyers (discountOf buyers lots (now (prices .entry))) k ⌝ }
 {
     if buyers <= k {
         return 0;
     }
-    let all = revenue(prices, buyers, lots, 0);
-    all - revenue(prices, buyers, lots, k + 1)
+    all - greatest_without(prices, buyers, lots, k + 1)
 }
 
 pub fn discounts(prices: &[u16; 96], buyers: usize, lots: usize) -> [u32; 6]
     requires { ⌜ (buyers ≤ 6) × (lots ≤ 4) ⌝ }
     ensures { λ r. ⌜ r ≡ seats buyers (discountOf buyers lots (now (prices .entry))) ⌝ }
 {
+    let all = greatest_without(prices, buyers, lots, 0);
     let mut t = [0u32; 6];
     let mut k: usize = 0;
     while k < 6 {
-        t[k] = discount_at(prices, buyers, lots, k);
+        t[k] = discount_at(prices, buyers, lots, all, k);
         k += 1;
     }
     t

@@ -18,7 +18,7 @@ use Rattle.theory.specs.Markets.{total}
 use Rattle.theory.specs.Coalitions.{holder}
 use Rattle.theory.proofs.Tests.{by-test}
 use Rattle.theory.proofs.Sums.{sum-mono, sum-const}
-use Rattle.theory.proofs.Lists.{most-same, most-bound}
+use Rattle.theory.proofs.Lists.{most-same, most-bound, zeros-at}
 use Rattle.theory.proofs.Loops.{sum-down}
 use Rattle.owners.specs.Owners.{withOwner, spread, allocations, zeroFirst, bundleFrom, single, market, number, holders}
 use Rattle.owners.specs.Quick.{totalBy, valueOf}
@@ -147,11 +147,6 @@ module _ (m : ℕ) (ws : List ℕ) (n : ℕ) where
       ap (totalBy m (worth ws) n) e)))
 
 -- the table of the whole walk, from one that is 0 everywhere
-pub zero-at : (k n : ℕ) → getD (replicate k 0) n 0 ≤ 0
-zero-at zero n = omega arith
-zero-at (suc k) zero = omega arith
-zero-at (suc k) (suc n) = zero-at k n
-
 total-small : (m : ℕ) (ws a : List ℕ) → m ≤ 6 → AtMost 9999 ws → total (market m single) (worth ws) a ≤ 59994
 total-small m ws a few h =
     omega (
@@ -162,7 +157,7 @@ total-small m ws a few h =
 
 pub valued : (m n : ℕ) (ws pre r : List ℕ) (k : ℕ) → m ≤ 6 → AtMost 9999 ws → k ≡ 0 → Walked m ws (take k pre) n (replicate 64 0) r → Valued m n ws r
 valued m n ws pre r k few h z walked =
-    let is : (j : ℕ) → getD r j 0 ≡ valueOf m n (worth ws) j = λ j. rw z at (walked j) ∙ omega (arith, zero-at 64 j) in
+    let is : (j : ℕ) → getD r j 0 ≡ valueOf m n (worth ws) j = λ j. rw z at (walked j) ∙ omega (arith, zeros-at 64 j) in
     record {
       is = is;
       small = λ j. omega (

@@ -10,6 +10,7 @@ use lib.ListN.{length}
 use lib.Pow.{pow-mono}
 use Rattle.theory.specs.Rounds.{choices, after}
 use Rattle.theory.specs.Coalitions.{Values, Roster, lowestBy}
+use Rattle.theory.proofs.Lists.{zeros-at}
 use Rattle.theory.proofs.Coalitions.{values-same}
 use Rattle.owners.specs.Owners.{allocations, zeroFirst, single}
 use Rattle.owners.specs.Prices.{plain, zeros}
@@ -22,12 +23,11 @@ use Rattle.rounds.specs.declared.State.{State}
 use Rattle.supply.specs.Supply.{shift, at}
 use Rattle.coalitions.specs.Values.{Valued}
 use Rattle.rounds.specs.Rounds.{Known, Opens, Sold, lowestAt, stepAt}
-use Rattle.coalitions.proofs.Walking.{zero-at}
 use Rattle.rounds.proofs.Going.{Done}
 
 pub start-none : AtMost 0 startPrices
 unfolding startPrices
-start-none k = omega (arith, zero-at 96 k)
+start-none k = omega (arith, zeros-at 96 k)
 
 -- `all` is the number of bundles
 pub known : {m n f all : ℕ} {ws values o : List ℕ} → Opens m n ws f o → Valued m n ws values → all ≡ 2 ^ n → Known m all ws values

@@ -1,13 +1,17 @@
 -- All that is claimed of sales, together (`sales-hold`). Assumes nothing.
-use mathlib.Core.Path.{refl}
+use mathlib.Core.Path.{_≡_, refl}
+use mathlib.Core.List.{List}
+use Prim.Native.Nat.{ℕ}
 use Rattle.sheet.specs.Sheets.{sheetOf}
-use Rattle.sale.specs.Claims.{Sales}
+use Rattle.sheet.specs.Questions.{sheetFault}
+use Rattle.sale.specs.Claims.{Claimed, Sales}
 use Rattle.sale.proofs.Lists as lists
+use Rattle.sale.proofs.Opening.{sale-closed}
 use Rattle.sale.proofs.Present as present
 use Rattle.sale.proofs.Theorems as theorems
 
-pub sales-hold : Sales
-sales-hold b accepted =
+pub claimed : (b : List ℕ) → sheetFault b .number ≡ 0 → Claimed (sheetOf b)
+claimed b accepted =
     let w = sheetOf b in
     record {
       lists = record {
@@ -33,3 +37,6 @@ sales-hold b accepted =
       };
       second = theorems.demand-2 b accepted;
     }
+
+pub sales-hold : Sales
+sales-hold = record { accepted = claimed; refused = sale-closed }

@@ -3,7 +3,5 @@ pub mod Instance
 pub mod Lists
 pub mod Theorems
 pub mod Present
+pub mod Opening
 pub mod Claimed
-pub mod Demanding
-pub mod Totals
-pub mod Selling

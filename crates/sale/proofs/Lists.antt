@@ -42,7 +42,7 @@ module _ (w : Sheet) where
   nothing-sold : replicate (w .lots) 0 ∈ allocations w
   nothing-sold = some-allocation (zeroFirst (w .buyers)) 0 (upTo-in (suc (w .buyers)) 0 (omega arith)) (w .lots)
 
-  economy-some : (e : ℕ) → replicate (w .lots) 0 ∈ economy w e
+  pub economy-some : (e : ℕ) → replicate (w .lots) 0 ∈ economy w e
   economy-some zero = nothing-sold
   economy-some (suc e) = keep-in (lacks (suc e)) nothing-sold (replicate-lacks (suc e) (w .lots) (omega arith))
 

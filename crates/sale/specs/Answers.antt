@@ -1,25 +1,20 @@
 -- What the public functions answer, for every sheet, record and price table: `demandAnswer`, `saleAnswer`, `saleRecord`.
 use mathlib.Core.Path.{_≡_}
-use mathlib.Core.Bool.{Bool, true, false}
+use mathlib.Core.Bool.{false}
 use mathlib.Core.List.{List}
 use Prim.Native.Nat.{ℕ}
 use lib.Dec.{leb}
 use lib.ListN.{length, replicate}
 use Rattle.owners.specs.Singles.{over}
-use Rattle.closing.specs.Walks.{four}
-use Rattle.closing.specs.Charges.{seats}
+use Rattle.totals.specs.Walks.{four}
+use Rattle.totals.specs.Seats.{seats}
 use Rattle.sheet.specs.declared.Fault.{Fault}
 use Rattle.sheet.specs.Sheets.{Sheet, sheetOf}
-use Rattle.sheet.specs.Questions.{fault, accepts, ask, between, sheetFault}
+use Rattle.sheet.specs.Questions.{fault, accepts, onward, ask, between, sheetFault}
 use Rattle.sale.specs.declared.Demand.{Demand}
 use Rattle.sale.specs.declared.Sale.{Sale}
 use Rattle.sale.specs.Words.{demandSet, isKeen}
 use Rattle.sale.specs.Rounds.{roundLimit, saleSets, lastPrices, ownersBy, discountFor, paymentFor}
-
--- what follows if every question so far was answered yes
-abbrev pub onward : {A : Type 0} → Bool → (Unit {0} → A) → A → A
-onward true rest other = rest tt
-onward false rest other = other
 
 -- "Only for a sale: has the lent record at least as many bytes as the sum, over buyers, of the worth of all lots together? No: 9."
 abbrev pub saleFault : List ℕ → ℕ → Fault

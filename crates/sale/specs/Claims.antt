@@ -1,7 +1,7 @@
--- What is claimed of every accepted sheet (`Sales`): of its allocations, at any prices (`AtPrices`, with universal competitive equilibria as the paper has
+-- What is claimed of sales (`Sales`): of every accepted sheet, of its allocations, at any prices (`AtPrices`, with universal competitive equilibria as the paper has
 -- them), at every round (`AtRound`), and demand 2 as one record.
 use mathlib.Core.Path.{_≡_}
-use mathlib.Core.Logic.{_↔_}
+use mathlib.Core.Logic.{_≢_, _↔_}
 use mathlib.Core.Bool.{true, false}
 use mathlib.Core.List.{List}
 use Prim.Native.Nat.{ℕ, suc, _+_, _-_, _*_, _^_, _≤_, _<_}
@@ -14,7 +14,9 @@ use Rattle.theory.specs.Auction.{Minimal, size}
 use Rattle.owners.specs.Owners.{ComesBefore, lacks, member}
 use Rattle.owners.specs.Prices.{plain, read}
 use Rattle.sheet.specs.Sheets.{Sheet, sheetOf}
-use Rattle.sheet.specs.Questions.{sheetFault}
+use Rattle.sheet.specs.Questions.{fault, sheetFault}
+use Rattle.sale.specs.declared.Sale.{Sale}
+use Rattle.sale.specs.Answers.{refusedSale, SaleSays}
 use Rattle.sale.specs.Words.{worthOf, priceAt, allocations, market, theAuction, economy, best, quote, demandSet, isKeen, revenue, fits, undersupplied, lowest}
 use Rattle.sale.specs.Rounds.{raised, roundLimit, startPrices, saleSets, pricesAfter, lastPrices, discountFor}
 
@@ -111,5 +113,7 @@ pub record Claimed (w : Sheet) : Type 0 where
   pub at-round : (k : ℕ) → k ≤ length (saleSets w) → AtRound w k
   pub second : Demand-2 w
 
-abbrev pub Sales : Type 0
-Sales = (b : List ℕ) → sheetFault b .number ≡ 0 → Claimed (sheetOf b)
+-- of every accepted sheet, and that a refused sale leaves the record as it was
+pub record Sales : Type 0 where
+  pub accepted : (b : List ℕ) → sheetFault b .number ≡ 0 → Claimed (sheetOf b)
+  pub refused : (b o o′ : List ℕ) (r : Sale) → SaleSays b o o′ r → r .number ≢ 0 → (r ≡ refusedSale (fault (r .number) (r .place))) × (o′ ≡ o)

@@ -1,18 +1,8 @@
-// Sales by rounds of a lot sheet, and demand answers.
+// What sales and demand answers answer, and their refusals. The meaning is in specs/, the theorems in proofs/.
 ghost use mathlib.Core.Path.{_≡_};
-ghost use Prim.Native.Nat.{_≤_};
-ghost use Rattle.sheet.specs.Sheets.{asSheet};
 ghost use Rattle.sheet.specs.Questions.{fault};
-ghost use Rattle.numbers.specs.Numbers.{Is};
-ghost use Rattle.owners.specs.Singles.{AtMost};
-ghost use Rattle.sale.specs.Rounds.{roundLimit};
 ghost use Rattle.sale.specs.Claims.{Sales};
-ghost use Rattle.sale.specs.Answers.{refusedDemand, refusedSale, demandAnswer, SaleSays};
-
-// Does nothing. Its contract has the theorems about sales, demand 2 among them, so that none can be dropped unseen.
-pub fn sales_hold()
-    ensures { λ _. ⌜ Sales ⌝ }
-{}
+ghost use Rattle.sale.specs.Answers.{refusedDemand, refusedSale};
 
 // A refusal, or a buyer's demand set and whether it is keen.
 #[repr(C)]
@@ -37,7 +27,7 @@ pub struct Sale {
     pub payments: [u32; 6],
 }
 
-fn refused_demand(number: u8, place: u32) -> Demand
+pub fn refused_demand(number: u8, place: u32) -> Demand
     ensures { λ r. ⌜ r ≡ refusedDemand (fault number place) ⌝ }
 {
     Demand {
@@ -48,44 +38,7 @@ fn refused_demand(number: u8, place: u32) -> Demand
     }
 }
 
-// What a buyer demands at prices brought from outside, sixteen to a buyer.
-pub fn buyer_demand(sheet: &[u8], buyer: u32, prices: [u16; 96]) -> Demand
-    ensures { λ r. ⌜ r ≡ demandAnswer (now (sheet .entry)) buyer prices ⌝ }
-{
-    let read = reading::read_worths(sheet);
-    if read.number != 0 {
-        return refused_demand(read.number, read.place);
-    }
-    let i = buyer as usize;
-    if !reading::is_between(read.buyers as usize, i) {
-        return refused_demand(10, 0);
-    }
-    let worths = read.worths;
-    let n = read.lots as usize;
-    Demand {
-        number: 0,
-        place: 0,
-        bundles: demand::demand_set(&worths, &prices, n, i),
-        keen: demand::is_keen(&worths, &prices, n, i),
-    }
-}
-
-// Question 9's sum, over buyers, of the worth of all lots together.
-fn round_limit(worths: &[u16; 96], m: usize, n: usize) -> u32
-    requires { ⌜ (m ≤ 6) × (1 ≤ n) × (n ≤ 4) × AtMost 9999 (now worths) ⌝ }
-    ensures { λ r. ⌜ Is (roundLimit (asSheet m n (now (worths .entry)))) r 59994 ⌝ }
-{
-    let top = numbers::power(n) - 1;
-    let mut total: u32 = 0;
-    let mut i: usize = 0;
-    while i < m {
-        total += demand::worth_of(worths, i + 1, top);
-        i += 1;
-    }
-    total
-}
-
-fn refused_sale(number: u8, place: u32) -> Sale
+pub fn refused_sale(number: u8, place: u32) -> Sale
     ensures { λ r. ⌜ r ≡ refusedSale (fault number place) ⌝ }
 {
     Sale {
@@ -101,36 +54,7 @@ fn refused_sale(number: u8, place: u32) -> Sale
     }
 }
 
-// Runs the sale of a sheet. Each round writes its set's number to the record's next byte.
-pub fn run_sale(sheet: &[u8], log: &mut [u8]) -> Sale
-    ensures { λ r. ⌜ SaleSays (now (sheet .entry)) (now (log .entry)) (now (log .exit)) r ⌝ }
-{
-    let read = reading::read_worths(sheet);
-    if read.number != 0 {
-        return refused_sale(read.number, read.place);
-    }
-    let worths = read.worths;
-    let m = read.buyers as usize;
-    let n = read.lots as usize;
-    let limit = round_limit(&worths, m, n);
-    if log.len() < limit as usize {
-        return refused_sale(9, 0);
-    }
-    let s = rounds::run_rounds(&worths, m, n, log, limit);
-    let prices = s.prices;
-    let c = closing::close_sale(&worths, &prices, m, n);
-    let owners = c.owners;
-    let discounts = c.discounts;
-    let payments = c.payments;
-    Sale {
-        number: 0,
-        place: 0,
-        buyers: read.buyers,
-        lots: read.lots,
-        rounds: s.rounds,
-        prices,
-        owners,
-        discounts,
-        payments,
-    }
-}
+// Does nothing. Its contract has the theorems about sales, demand 2 among them, so that none can be dropped unseen.
+pub fn sales_hold()
+    ensures { λ _. ⌜ Sales ⌝ }
+{}

@@ -18,6 +18,11 @@ fault k p = record { number = k; place = p }
 abbrev pub accepts : Fault → Bool
 accepts f = eqb (f .number) 0
 
+-- what follows if every question so far was answered yes
+abbrev pub onward : {A : Type 0} → Bool → (Unit {0} → A) → A → A
+onward true rest other = rest tt
+onward false rest other = other
+
 -- question k, with its answer and the questions after it
 abbrev pub ask : ℕ → Bool → (Unit {0} → Fault) → Fault
 ask k true rest = rest tt

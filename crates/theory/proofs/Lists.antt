@@ -7,7 +7,7 @@ use mathlib.Core.Logic.{_⊎_, inl, inr}
 use Prim.Native.Nat.{ℕ, zero, suc, _+_, _≤_, _<_}
 use native.Mathlib.Omega.{arith}
 use native.Mathlib.Decide.{decLe, ℕ-discrete}
-use lib.ListN.{length, getD}
+use lib.ListN.{length, getD, replicate}
 use Rattle.theory.specs.Sums.{Among}
 use Rattle.theory.specs.Lists.{_∈_, most, keep, first, Ordered, tabulate, upTo}
 use Rattle.theory.proofs.Tests.{by-test}
@@ -88,6 +88,11 @@ ordered-append R (a ∷ l) k o p h = (
   λ b m. elim (List·Memᴰ·append-cases l m) [ inl n ↦ o .0 b n | inr n ↦ h a b (here refl) n ],
   ordered-append R l k (o .1) p (λ b c m n. h b c (there m) n),
 )
+
+pub zeros-at : (n k : ℕ) → _≡_ {A = ℕ} (getD (replicate n 0) k 0) 0
+zeros-at zero k = refl
+zeros-at (suc n) zero = refl
+zeros-at (suc n) (suc k) = zeros-at n k
 
 pub tabulate-at : {A : Type 0} (k s : ℕ) (f : ℕ → A) (j : ℕ) (d : A) → j < k → getD (tabulate k s f) j d ≡ f (s + j)
 tabulate-at zero s f j d h = absurd (omega arith)

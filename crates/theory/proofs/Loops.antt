@@ -1,6 +1,6 @@
 -- Loops over a range: what a definition over it still has to do from k on. Offers one law for each way through a loop
 -- that looks for the first that passes (`least`), that tests all (`every`), that takes in one number after another
--- (`most`, `some`, `every`, and `sum` counting down), and that fills a list place by place (`Filled`, `tabulate`).
+-- (`most`, `sum`, `some`, `every`, and `sum` counting down), and that fills a list place by place (`Filled`, `tabulate`).
 -- Assumes nothing.
 use mathlib.Core.Path.{_≡_, refl, sym, ap, _∙_}
 use mathlib.Core.Logic.{⊎-elim}
@@ -56,6 +56,9 @@ module _ (n k : ℕ) where
         max y (most f (upTo (n - (k + 1)) (k + 1))) ≡ T
     most-more f x y T inv e = rw (add-one k) (omega (arith, rw next at inv))
 
+    pub sum-more : (f : ℕ → ℕ) (x y T : ℕ) → x + sum (n - k) k f ≡ T → y ≡ x + f k → y + sum (n - (k + 1)) (k + 1) f ≡ T
+    sum-more f x y T inv e = rw (add-one k) (omega (arith, rw next at inv))
+
     pub some-more : (t : ℕ → Bool) (x y T : Bool) → (x || some t (upTo (n - k) k)) ≡ T → y ≡ (x || t k) →
         (y || some t (upTo (n - (k + 1)) (k + 1))) ≡ T
     some-more t x y T inv e = rw (add-one k, e) (or-assoc x (t k) (some t (upTo (n - suc k) (suc k))) ∙ rw next at inv)
@@ -78,6 +81,9 @@ module _ (n k : ℕ) where
 
     pub most-done : (f : ℕ → ℕ) (x T : ℕ) → max x (most f (upTo (n - k) k)) ≡ T → x ≡ T
     most-done f x T inv = omega (arith, rw none at inv)
+
+    pub sum-done : (f : ℕ → ℕ) (x T : ℕ) → x + sum (n - k) k f ≡ T → x ≡ T
+    sum-done f x T inv = omega (arith, rw none at inv)
 
     pub some-done : (t : ℕ → Bool) (x T : Bool) → (x || some t (upTo (n - k) k)) ≡ T → x ≡ T
     some-done t true T inv = inv

@@ -2,6 +2,7 @@
 
 pub mod allocation;
 pub mod demand;
+pub mod direct;
 pub mod round;
 pub mod sale;
 pub mod sheet;

@@ -1,6 +1,7 @@
 //! The sales of document 01, with the answers that it names.
 
 use crate::generator::bytes_of;
+use crate::reckoning::direct::Direct;
 use crate::reckoning::sale::Closing;
 use crate::reckoning::sheet::{bundles, Refusal, MOST_BUYERS, MOST_LOTS};
 use crate::sheets::document::{sheet_of, REFUSED};
@@ -10,24 +11,26 @@ use crate::tally::{Tally, Told};
 pub const TABLE_3: &str =
     "     3     2\n     3     0     3\n     0     6     6\n     0     2     4\n";
 
-/// A settled sale: its sheet, question 9's sum, the bytes recorded, and the closing of lots 1, 2,
-/// .. and buyers 1, 2, ...
-struct Settled {
-    text: &'static str,
+/// A settled sale: its sheet, question 9's sum, the bytes recorded, the direct way's T, and the
+/// closing of lots 1, 2, .. and buyers 1, 2, ...
+pub struct Settled {
+    pub text: &'static str,
     record_needed: usize,
     recorded: &'static [u8],
+    total: u32,
     owners: &'static [u8],
     charges: &'static [u32],
     discounts: &'static [u32],
     payments: &'static [u32],
 }
 
-const SETTLED: [Settled; 8] = [
+pub const SETTLED: [Settled; 8] = [
     // The printed sale.
     Settled {
         text: "     2     2\n     2     0     2\n     0     1     3\n",
         record_needed: 5,
         recorded: &[3, 3],
+        total: 3,
         owners: &[1, 2],
         charges: &[2, 0],
         discounts: &[0, 0],
@@ -39,6 +42,7 @@ const SETTLED: [Settled; 8] = [
         text: TABLE_3,
         record_needed: 13,
         recorded: &[5, 2, 4, 1, 2, 4, 2, 4, 2],
+        total: 9,
         owners: &[1, 2],
         charges: &[2, 4, 0],
         discounts: &[2, 2, 0],
@@ -50,6 +54,7 @@ const SETTLED: [Settled; 8] = [
         text: "     3     2\n     0     0     2\n     0     1     1\n     1     0     1\n",
         record_needed: 4,
         recorded: &[3, 4, 1],
+        total: 2,
         owners: &[1, 1],
         charges: &[2, 0, 0],
         discounts: &[0, 0, 0],
@@ -60,6 +65,7 @@ const SETTLED: [Settled; 8] = [
         text: "     2     1\n     5\n     3\n",
         record_needed: 8,
         recorded: &[3, 3, 3],
+        total: 5,
         owners: &[1],
         charges: &[3, 0],
         discounts: &[0, 0],
@@ -70,6 +76,7 @@ const SETTLED: [Settled; 8] = [
         text: "     2     1\n     4\n     4\n",
         record_needed: 8,
         recorded: &[3, 3, 3, 3],
+        total: 4,
         owners: &[1],
         charges: &[4, 0],
         discounts: &[0, 0],
@@ -80,6 +87,7 @@ const SETTLED: [Settled; 8] = [
         text: "     1     1\n     7\n",
         record_needed: 7,
         recorded: &[],
+        total: 7,
         owners: &[1],
         charges: &[0],
         discounts: &[0],
@@ -90,6 +98,7 @@ const SETTLED: [Settled; 8] = [
         text: "     2     1\n     0\n     0\n",
         record_needed: 0,
         recorded: &[],
+        total: 0,
         owners: &[0],
         charges: &[0, 0],
         discounts: &[0, 0],
@@ -100,6 +109,7 @@ const SETTLED: [Settled; 8] = [
         text: "     1     1\n  9999\n",
         record_needed: 9_999,
         recorded: &[],
+        total: 9_999,
         owners: &[1],
         charges: &[0],
         discounts: &[0],
@@ -161,6 +171,15 @@ impl Settled {
                 discounts: padded(self.discounts),
                 payments: padded(self.payments),
             },
+        }
+    }
+
+    /// What the direct way answers for the sheet.
+    pub fn direct(&self) -> Direct {
+        Direct {
+            total: self.total,
+            owners: padded(self.owners),
+            payments: padded(self.payments),
         }
     }
 }

@@ -1,12 +1,14 @@
-//! The comparisons of the library's sales and demand answers with the Rust reckoning, group by
-//! group.
+//! The comparisons of the library's sales, demand answers and direct way with the Rust reckoning,
+//! group by group.
 
 use crate::generator::Generator;
 use crate::tally::Tally;
 
 mod demands;
+mod direct;
 mod document;
 mod full;
+mod gains;
 mod random;
 mod records;
 mod refusals;
@@ -21,4 +23,6 @@ pub fn compare(tally: &mut Tally, generator: &mut Generator) {
     refusals::compare(tally, generator);
     demands::compare(tally, generator);
     full::compare(tally, generator);
+    direct::compare(tally, generator);
+    gains::compare(tally, generator);
 }

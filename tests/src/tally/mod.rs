@@ -7,8 +7,10 @@ use crate::generator::Generator;
 use crate::library::{self, FieldAnswer, Read, Worths};
 use crate::reckoning::sheet::{read_field, read_sheet, Answer, Field, FIELD, FIRST_LINE};
 
+mod direct;
 mod sales;
 
+pub use direct::Pair;
 pub use sales::Told;
 
 /// The most differences that are printed.

@@ -1,8 +1,10 @@
 //! The comparison of demand answers, of sales and of their records.
 
+use super::direct::direct_difference;
 use super::{difference, Tally};
 use crate::library;
 use crate::reckoning::demand::{buyer_demand, Demand, Prices};
+use crate::reckoning::direct::direct_way;
 use crate::reckoning::sale::{run_sale, Closing, Sale};
 use crate::reckoning::sheet::Refusal;
 
@@ -21,8 +23,8 @@ pub struct Told {
 }
 
 impl Tally {
-    /// Compares the whole answers to a sale and the whole records after it. The record is lent
-    /// with these bytes.
+    /// Compares the whole answers to a sale and the whole records after it, and the direct way's
+    /// answers to its sheet. The record is lent with these bytes.
     pub fn sale(&mut self, sheet: &[u8], record: &[u8]) {
         let (_, differences) = compare_sale(sheet, record);
         self.count(sheet, &differences);
@@ -73,8 +75,8 @@ fn compare_demand(
     (demand, Vec::from_iter(difference))
 }
 
-/// What the Rust reckoning tells of a sale, and its differences from the library and from what
-/// holds of every sale.
+/// What the Rust reckoning tells of a sale, and its differences from the library, from the direct
+/// way and from what holds of every sale.
 fn compare_sale(sheet: &[u8], record: &[u8]) -> (Result<Told, Refusal>, Vec<String>) {
     let mut lent = within_margins(record);
     let answer = library::run_sale(sheet, &mut lent[MARGIN.len()..][..record.len()]);
@@ -87,6 +89,9 @@ fn compare_sale(sheet: &[u8], record: &[u8]) -> (Result<Told, Refusal>, Vec<Stri
         ("Rust", &sale_of(&sale)),
     ));
     differences.extend(record_difference(&lent, &within_margins(&reckoned)));
+    let direct = library::direct_way(sheet);
+    differences.extend(direct_difference(&direct, &direct_way(sheet)));
+    differences.extend(unlike(&answer, &direct));
     if let Ok(sale) = &sale {
         differences.extend(claims(sale));
     }
@@ -110,6 +115,19 @@ fn record_difference(library: &[u8], rust: &[u8]) -> Option<String> {
         format_args!("record from byte {}", at as isize - MARGIN.len() as isize),
         ("library", &library),
         ("Rust", &rust),
+    )
+}
+
+/// What is printed of a settled sale that breaks this: "the sale's owners and payments, place for
+/// place, are the direct way's for that sheet".
+fn unlike(sale: &library::Sale, direct: &library::Direct) -> Option<String> {
+    if sale.number != 0 {
+        return None;
+    }
+    difference(
+        "owners and payments",
+        ("run_sale", &(sale.owners, sale.payments)),
+        ("direct_way", &(direct.owners, direct.payments)),
     )
 }
 

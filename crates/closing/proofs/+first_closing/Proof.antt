@@ -6,13 +6,13 @@ use lib.ListN.{length, take}
 use borrow.Fn.PlainCycle.{Measures, is, falls, and}
 use borrow.Fn.Kinds.{In}
 use Rattle.closing.specs.Closings.{closesSale}
-use Rattle.closing.specs.Walks.{branch, rest}
-use Rattle.closing.proofs.Searches.{Remains, blank-next, remains-all, finds-leaf, finds-none, finds-here, remains-later}
+use Rattle.totals.specs.Walks.{branch, rest}
+use Rattle.totals.proofs.Searches.{Remains, blank-next, remains-all, finds-leaf, finds-none, finds-here, remains-later}
 use Rattle.closing.proofs.+first_closing.Lts-first_closing as lts
 use Rattle.closing.proofs.closes.Reads as closes-reads
 use Rattle.closing.proofs.first_closing.Kinds.{ps}
 use Rattle.closing.proofs.first_closing.Reads as walk
-use Rattle.closing.proofs.with_owner.Reads as with-owner-reads
+use Rattle.totals.proofs.with_owner.Reads as with-owner-reads
 use Rattle.closing.proofs.+first_closing.{statement}
 use Rattle.closing.proofs.+first_closing.Tie.{close}
 

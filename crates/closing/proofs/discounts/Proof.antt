@@ -3,21 +3,25 @@ use mathlib.Core.Path.{refl}
 use Prim.Native.Nat.{_-_, _≤_}
 use native.Mathlib.Omega.{arith}
 use Rattle.theory.proofs.Loops.{Filled, filled-none, filled-more, filled-all}
-use Rattle.closing.specs.Charges.{seat, seats, discountOf}
+use Rattle.totals.specs.Seats.{seat, seats}
+use Rattle.closing.specs.Charges.{discountOf}
 use Rattle.closing.proofs.discounts.Statement.{statement}
 use Rattle.closing.proofs.discounts.Tie as tie
 
 abbrev Inv-loop : tie.InvT-loop
-Inv-loop prices buyers lots t₀ k₀ t k = (k ≤ 6) × Filled (seat buyers (discountOf buyers lots prices)) 6 k t
+Inv-loop prices buyers lots all t₀ k₀ t k = (k ≤ 6) × Filled (seat buyers (discountOf buyers lots prices)) 6 k t
 
 abbrev μ-loop : tie.MeasureT-loop
-μ-loop prices buyers lots t₀ k₀ t k = 6 - k
+μ-loop prices buyers lots all t₀ k₀ t k = 6 - k
+
+greatest-without-requires : tie.Need-greatest-without-requires Inv-loop μ-loop
+greatest-without-requires c κs = omega arith
 
 loop-holds : tie.Need-loop-holds Inv-loop μ-loop
 loop-holds c = (omega arith, filled-none _ 6 _ refl)
 
 discount-at-requires : tie.Need-discount-at-requires Inv-loop μ-loop
-discount-at-requires c κs = omega arith
+discount-at-requires c κs = (omega arith, omega arith, c .before .before .greatest-without .ensures .is)
 
 mul-t : tie.Need-mul-t Inv-loop μ-loop
 mul-t c = omega arith
@@ -44,6 +48,7 @@ discounts-spec =
     (tie.spec
     Inv-loop
     μ-loop
+    greatest-without-requires
     loop-holds
     discount-at-requires
     mul-t

@@ -3,8 +3,9 @@ use mathlib.Core.Path.{refl}
 use native.Mathlib.Omega.{arith}
 use lib.ListN.{take}
 use borrow.Author.Needs.{needs}
+use Rattle.totals.proofs.Seats.{seat-absent}
 use Rattle.closing.specs.Charges.{lessDiscount}
-use Rattle.closing.proofs.Charges.{seat-absent, payment-is}
+use Rattle.closing.proofs.Charges.{payment-is}
 use Rattle.closing.proofs.payment_at.Statement.{statement}
 use Rattle.closing.proofs.payment_at.Tie as tie
 

@@ -4,7 +4,8 @@ use Prim.Native.Nat.{_-_, _≤_}
 use native.Mathlib.Omega.{arith}
 use lib.ListN.{take, getD}
 use Rattle.theory.proofs.Loops.{Filled, filled-none, filled-more, filled-all}
-use Rattle.closing.specs.Charges.{seat, seats, lessDiscount}
+use Rattle.totals.specs.Seats.{seat, seats}
+use Rattle.closing.specs.Charges.{lessDiscount}
 use Rattle.closing.proofs.Charges.{payment-seat}
 use Rattle.closing.proofs.payments.Statement.{statement}
 use Rattle.closing.proofs.payments.Tie as tie

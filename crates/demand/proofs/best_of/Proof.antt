@@ -8,7 +8,7 @@ use Rattle.theory.specs.Lists.{most, upTo}
 use Rattle.numbers.proofs.Numbers.{pow-small}
 use Rattle.owners.specs.Prices.{plain, payoff, best}
 use Rattle.owners.specs.Singles.{worth}
-use Rattle.demand.proofs.Loops.{most-passed, most-done}
+use Rattle.theory.proofs.Loops.{most-more, most-done}
 use Rattle.demand.proofs.best_of.Statement.{statement}
 use Rattle.demand.proofs.best_of.Tie as tie
 
@@ -38,7 +38,7 @@ loop-again c =
     let l = c .before .before .before in
     let z = l .before .before .args in
     let p = c .before .payoff-of in
-    let next = most-passed (payoff (plain 6) (worth (z .worths .now)) (z .prices .now) (z .i)) (l .before .power .result) (l .loop .s) (l .loop .top) _ (c .before .before .loop-test .taken) (l .loop .inv .2) (c .if1 .top) in
+    let next = most-more (l .before .power .result) (l .loop .s) (c .before .before .loop-test .taken) (payoff (plain 6) (worth (z .worths .now)) (z .prices .now) (z .i)) (l .loop .top) (c .if1 .top) _ (l .loop .inv .2) in
     ⊎-elim
     (λ w. (omega arith, omega (arith, p .ensures .most), next (omega (arith, p .ensures .is))))
     (λ w. (omega arith, omega arith, next (omega (arith, p .ensures .is))))
@@ -49,7 +49,7 @@ returns c =
     let l = c .before in
     let z = l .before .before .args in
     record {
-      is = most-done (payoff (plain 6) (worth (z .worths .now)) (z .prices .now) (z .i)) (l .before .power .result) (l .loop .s) (l .loop .top) _ (omega arith) (l .loop .inv .2);
+      is = most-done (l .before .power .result) (l .loop .s) (omega arith) (payoff (plain 6) (worth (z .worths .now)) (z .prices .now) (z .i)) (l .loop .top) _ (l .loop .inv .2);
       most = l .loop .inv .1;
     }
 

@@ -1,0 +1,2 @@
+-- The three demands, of what the public functions answer.
+pub mod Claims

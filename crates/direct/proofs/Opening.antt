@@ -1,0 +1,47 @@
+-- The direct way that accepts (`direct-open`), and that refuses (`direct-closed`). Assumes nothing.
+use mathlib.Core.Path.{_≡_, refl, sym, ap, _∙_}
+use mathlib.Core.Logic.{_≢_}
+use mathlib.Core.List.{List}
+use Prim.Native.Nat.{ℕ}
+use Rattle.sheet.specs.Sheets.{sheetOf}
+use Rattle.sheet.specs.Questions.{fault, sheetFault}
+use Rattle.sheet.proofs.Forms.{Form, told, told-number, told-yes, told-again}
+use Rattle.direct.specs.declared.Direct.{Direct}
+use Rattle.direct.specs.Answers.{refusedDirect, reckoned, directAnswer}
+
+unfoldable pub directForm : List ℕ → Form Direct
+unfolding reckoned refusedDirect
+directForm b =
+    record {
+      number = λ d. d .number;
+      place = λ d. d .place;
+      yes = reckoned (sheetOf b);
+      no = refusedDirect;
+      number-yes = refl;
+      place-yes = refl;
+      number-no = λ g. refl;
+      place-no = λ g. refl;
+    }
+
+-- the direct way that accepts
+module _ (b : List ℕ) (d : Direct) (e : d ≡ directAnswer b) where
+  pub direct-told : d ≡ told (directForm b) (sheetFault b)
+  unfolding directAnswer directForm
+  direct-told = e
+
+  pub direct-number : d .number ≡ sheetFault b .number
+  unfolding directForm
+  direct-number = ap (λ (s : Direct). s .number) direct-told ∙ told-number (directForm b) (sheetFault b)
+
+  pub direct-open : d .number ≡ 0 → (sheetFault b .number ≡ 0) × (d ≡ reckoned (sheetOf b))
+  unfolding directForm
+  direct-open z = (
+    sym direct-number ∙ z,
+    direct-told ∙ told-yes (directForm b) (sheetFault b) (told-number (directForm b) (sheetFault b) ∙ sym direct-number ∙ z),
+  )
+
+  pub direct-closed : d .number ≢ 0 → d ≡ refusedDirect (fault (d .number) (d .place))
+  unfolding directForm
+  direct-closed h =
+      direct-told ∙ told-again (directForm b) (sheetFault b) (λ z. h (ap (λ (s : Direct). s .number) direct-told ∙ z))
+      ∙ ap (λ (s : Direct). refusedDirect (fault (s .number) (s .place))) (sym direct-told)

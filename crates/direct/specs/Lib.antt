@@ -1,0 +1,2 @@
+-- What the direct way answers.
+pub mod Answers

@@ -1,0 +1,2 @@
+-- Laws of payoffs and raises.
+pub mod Rising

@@ -1,0 +1,82 @@
+-- A sale that accepts (`sale-open`), and one that refuses (`sale-closed`). Assumes nothing.
+use mathlib.Core.Path.{_≡_, refl, sym, ap, _∙_}
+use mathlib.Core.Logic.{_≢_}
+use mathlib.Core.List.{List}
+use Prim.Native.Nat.{ℕ, _≤_}
+use native.Mathlib.Omega.{arith}
+use lib.Dec.{leb}
+use lib.ListN.{length}
+use borrow.Author.Tests.{eq-eqb, ne-eqb, leb-true}
+use Rattle.owners.specs.Singles.{over}
+use Rattle.sheet.specs.Sheets.{sheetOf}
+use Rattle.sheet.specs.Questions.{fault, sheetFault}
+use Rattle.sheet.proofs.Forms.{Form, told, told-number, told-yes, told-again, asked-none}
+use Rattle.sale.specs.declared.Sale.{Sale}
+use Rattle.sale.specs.declared.Demand.{Demand}
+use Rattle.sale.specs.Words.{demandSet, isKeen}
+use Rattle.sale.specs.Rounds.{roundLimit, saleSets}
+use Rattle.sale.specs.Answers.{saleFault, refusedDemand, refusedSale, settledSale, saleAnswer, saleRecord, SaleSays}
+
+unfoldable pub saleForm : List ℕ → Form Sale
+unfolding settledSale refusedSale
+saleForm b =
+    record {
+      number = λ r. r .number;
+      place = λ r. r .place;
+      yes = settledSale (sheetOf b);
+      no = refusedSale;
+      number-yes = refl;
+      place-yes = refl;
+      number-no = λ g. refl;
+      place-no = λ g. refl;
+    }
+
+unfoldable pub demandForm : List ℕ → ℕ → List ℕ → Form Demand
+unfolding refusedDemand
+demandForm b i ps =
+    record {
+      number = λ d. d .number;
+      place = λ d. d .place;
+      yes = record { number = 0; place = 0; bundles = demandSet (sheetOf b) ps i; keen = isKeen (sheetOf b) ps i };
+      no = refusedDemand;
+      number-yes = refl;
+      place-yes = refl;
+      number-no = λ g. refl;
+      place-no = λ g. refl;
+    }
+
+-- a sale that accepts
+pub record Open (b o o′ : List ℕ) (r : Sale) : Type 0 where
+  pub accepted : sheetFault b .number ≡ 0
+  pub room : roundLimit (sheetOf b) ≤ length o
+  pub answer : r ≡ settledSale (sheetOf b)
+  pub bytes : o′ ≡ over (saleSets (sheetOf b)) o
+
+module _ (b o o′ : List ℕ) (r : Sale) (says : SaleSays b o o′ r) where
+  pub sale-told : r ≡ told (saleForm b) (saleFault b (length o))
+  unfolding saleAnswer saleForm
+  sale-told = says .answer
+
+  pub sale-number : r .number ≡ saleFault b (length o) .number
+  unfolding saleForm
+  sale-number = ap (λ (s : Sale). s .number) sale-told ∙ told-number (saleForm b) (saleFault b (length o))
+
+  pub sale-open : r .number ≡ 0 → Open b o o′ r
+  unfolding saleForm saleRecord
+  sale-open z =
+      let none = sym sale-number ∙ z in
+      let (accepted, room) = asked-none 9 (leb (roundLimit (sheetOf b)) (length o)) (sheetFault b) (omega arith) none in
+      record {
+        accepted = accepted;
+        room = leb-true (roundLimit (sheetOf b)) (length o) room;
+        answer = sale-told ∙ told-yes (saleForm b) (saleFault b (length o)) (told-number (saleForm b) (saleFault b (length o)) ∙ none);
+        bytes = says .bytes ∙ rw (eq-eqb (saleFault b (length o) .number) 0 none) refl;
+      }
+
+  pub sale-closed : r .number ≢ 0 → (r ≡ refusedSale (fault (r .number) (r .place))) × (o′ ≡ o)
+  unfolding saleForm saleRecord
+  sale-closed h = (
+    sale-told ∙ told-again (saleForm b) (saleFault b (length o)) (λ z. h (ap (λ (s : Sale). s .number) sale-told ∙ z))
+        ∙ ap (λ (s : Sale). refusedSale (fault (s .number) (s .place))) (sym sale-told),
+    says .bytes ∙ rw (ne-eqb (saleFault b (length o) .number) 0 (λ z. h (sale-number ∙ z))) refl,
+  )

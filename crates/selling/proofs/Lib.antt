@@ -1,0 +1,3 @@
+-- The ways out of a demand answer (Demanding) and of a sale (Selling).
+pub mod Demanding
+pub mod Selling

@@ -1,0 +1,2 @@
+-- The starred sales.
+pub mod Starred

@@ -1,0 +1,151 @@
+-- The starred sales of document 01 as one table, with rows that catch what those miss. A row has a sheet, the record's length, and the answers of a sale and of
+-- the direct way. Sheets are given by their numbers: `sheetBy` lays out the bytes.
+use mathlib.Core.Path.{_≡_}
+use mathlib.Core.List.{List, [], _∷_, _++_, map}
+use Prim.Native.Nat.{ℕ, _-_}
+use lib.ListN.{length, take, set, replicate}
+use Rattle.fields.specs.Fields.{columns}
+use Rattle.sheet.specs.Questions.{fault}
+use Rattle.owners.specs.Singles.{over}
+use Rattle.totals.specs.Walks.{four}
+use Rattle.sale.specs.declared.Sale.{Sale}
+use Rattle.sale.specs.Answers.{refusedSale, saleAnswer, saleRecord}
+use Rattle.direct.specs.declared.Direct.{Direct}
+use Rattle.direct.specs.Answers.{refusedDirect, directAnswer}
+
+-- a line of numbers, in six columns each, with its line end; and a sheet of m buyers and n lots
+abbrev pub lineOf : List ℕ → List ℕ
+lineOf [] = 10 ∷ []
+lineOf (v ∷ vs) = columns 6 v ++ lineOf vs
+
+abbrev pub linesOf : List (List ℕ) → List ℕ
+linesOf [] = []
+linesOf (l ∷ ls) = lineOf l ++ linesOf ls
+
+abbrev pub sheetBy : ℕ → ℕ → List (List ℕ) → List ℕ
+sheetBy m n worths = linesOf ((m ∷ n ∷ []) ∷ worths)
+
+-- prices from bundle 1 on, sixteen places to a buyer; and six places, one to a buyer
+abbrev pub sixteen : List (List ℕ) → List ℕ
+sixteen [] = []
+sixteen (l ∷ ls) = (0 ∷ (l ++ replicate (15 - length l) 0)) ++ sixteen ls
+
+abbrev pub padded : ℕ → List ℕ → List ℕ
+padded k l = l ++ replicate (k - length l) 0
+
+pub record Row : Type 0 where
+  pub sheet : List ℕ
+  pub room : ℕ
+  pub sale : Sale
+  pub sets : List ℕ
+  pub direct : Direct
+
+-- worths, the record's length; the sets of the rounds, the last prices; owners, discounts, payments and the greatest total
+abbrev pub sold : ℕ → ℕ → List (List ℕ) → ℕ → List ℕ → List (List ℕ) → List ℕ → List ℕ → List ℕ → ℕ → Row
+sold m n worths room sets prices owners discounts payments total =
+    record {
+      sheet = sheetBy m n worths;
+      room = room;
+      sale = record {
+        number = 0;
+        place = 0;
+        buyers = m;
+        lots = n;
+        rounds = length sets;
+        prices = padded 96 (sixteen prices);
+        owners = four owners;
+        discounts = padded 6 discounts;
+        payments = padded 6 payments;
+      };
+      sets = sets;
+      direct = record { number = 0; place = 0; total = total; owners = four owners; payments = padded 6 payments };
+    }
+
+-- a record that is too short; the direct way has none
+abbrev pub tooShort : ℕ → ℕ → List (List ℕ) → ℕ → List ℕ → List ℕ → ℕ → Row
+tooShort m n worths room owners payments total =
+    record {
+      sheet = sheetBy m n worths;
+      room = room;
+      sale = refusedSale (fault 9 0);
+      sets = [];
+      direct = record { number = 0; place = 0; total = total; owners = four owners; payments = padded 6 payments };
+    }
+
+-- a sheet that is refused, with a number and a place
+abbrev pub refuses : List ℕ → ℕ → ℕ → Row
+refuses sheet number place =
+    record { sheet = sheet; room = 20; sale = refusedSale (fault number place); sets = []; direct = refusedDirect (fault number place) }
+
+abbrev pub rows : List Row
+rows =
+    -- "The sheet above: record 3 3; owners (2,2) reach the same total, but (1,2) comes first." "The same with a record of 5 bytes: settled."
+    sold 2 2 ((2 ∷ 0 ∷ 2 ∷ []) ∷ (0 ∷ 1 ∷ 3 ∷ []) ∷ []) 5
+    (3 ∷ 3 ∷ []) ((2 ∷ 0 ∷ 2 ∷ []) ∷ (0 ∷ 0 ∷ 2 ∷ []) ∷ [])
+    (1 ∷ 2 ∷ []) (0 ∷ 0 ∷ []) (2 ∷ 0 ∷ []) 3 ∷
+    -- "With 4: refusal 9."
+    tooShort 2 2 ((2 ∷ 0 ∷ 2 ∷ []) ∷ (0 ∷ 1 ∷ 3 ∷ []) ∷ []) 4
+    (1 ∷ 2 ∷ []) (2 ∷ 0 ∷ []) 3 ∷
+    -- "Table 3 of source document 000"
+    sold 3 2 ((3 ∷ 0 ∷ 3 ∷ []) ∷ (0 ∷ 6 ∷ 6 ∷ []) ∷ (0 ∷ 2 ∷ 4 ∷ []) ∷ []) 13
+    (5 ∷ 2 ∷ 4 ∷ 1 ∷ 2 ∷ 4 ∷ 2 ∷ 4 ∷ 2 ∷ []) ((2 ∷ 0 ∷ 2 ∷ []) ∷ (0 ∷ 4 ∷ 4 ∷ []) ∷ (0 ∷ 2 ∷ 4 ∷ []) ∷ [])
+    (1 ∷ 2 ∷ []) (2 ∷ 2 ∷ 0 ∷ []) (0 ∷ 2 ∷ 0 ∷ []) 9 ∷
+    -- "One lot, worths 5 and 3: record 3 3 3, owner 1, payments 3, 0."
+    sold 2 1 ((5 ∷ []) ∷ (3 ∷ []) ∷ []) 8
+    (3 ∷ 3 ∷ 3 ∷ []) ((3 ∷ []) ∷ (3 ∷ []) ∷ [])
+    (1 ∷ []) (0 ∷ 0 ∷ []) (3 ∷ 0 ∷ []) 5 ∷
+    -- "One lot, worths 4 and 4: four rounds, owner 1, payments 4, 0."
+    sold 2 1 ((4 ∷ []) ∷ (4 ∷ []) ∷ []) 8
+    (3 ∷ 3 ∷ 3 ∷ 3 ∷ []) ((4 ∷ []) ∷ (4 ∷ []) ∷ [])
+    (1 ∷ []) (0 ∷ 0 ∷ []) (4 ∷ 0 ∷ []) 4 ∷
+    -- "One buyer, one lot, worth 7: no round, owner 1, payment 0; the record must still have 7 bytes."
+    sold 1 1 ((7 ∷ []) ∷ []) 7
+    [] ((0 ∷ []) ∷ [])
+    (1 ∷ []) (0 ∷ []) (0 ∷ []) 7 ∷
+    tooShort 1 1 ((7 ∷ []) ∷ []) 6
+    (1 ∷ []) (0 ∷ []) 7 ∷
+    -- "One lot, two worths of 0: no round, owner 0."
+    sold 2 1 ((0 ∷ []) ∷ (0 ∷ []) ∷ []) 0
+    [] ((0 ∷ []) ∷ (0 ∷ []) ∷ [])
+    (0 ∷ []) (0 ∷ 0 ∷ []) (0 ∷ 0 ∷ []) 0 ∷
+    -- "12 bytes: 1." "A sole good first line, 1 and 1: 5."
+    refuses (take 12 (sheetBy 2 2 ((2 ∷ 0 ∷ 2 ∷ []) ∷ (0 ∷ 1 ∷ 3 ∷ []) ∷ []))) 1 0 ∷
+    refuses (sheetBy 1 1 []) 5 0 ∷
+    -- "Two buyers, two lots, first line of worths 4, 0, 3: 8 at offset 25."
+    refuses (sheetBy 2 2 ((4 ∷ 0 ∷ 3 ∷ []) ∷ (0 ∷ 1 ∷ 3 ∷ []) ∷ [])) 8 25 ∷
+    -- "10,000 gives 7. A worth field "    03" gives 6; in the first line it gives 2."
+    refuses (sheetBy 1 1 ((10000 ∷ []) ∷ [])) 7 13 ∷
+    refuses (set (sheetBy 1 1 ((3 ∷ []) ∷ [])) 17 48) 6 13 ∷
+    refuses (set (sheetBy 3 1 ((3 ∷ []) ∷ (3 ∷ []) ∷ (3 ∷ []) ∷ [])) 4 48) 2 0 ∷
+    -- the economies that lack only a loser show in the record
+    sold 3 2 ((0 ∷ 1 ∷ 1 ∷ []) ∷ (0 ∷ 0 ∷ 2 ∷ []) ∷ (1 ∷ 0 ∷ 1 ∷ []) ∷ []) 4
+    (3 ∷ 4 ∷ 2 ∷ []) ((0 ∷ 1 ∷ 1 ∷ []) ∷ (0 ∷ 0 ∷ 2 ∷ []) ∷ (1 ∷ 0 ∷ 1 ∷ []) ∷ [])
+    (2 ∷ 2 ∷ []) (0 ∷ 0 ∷ 0 ∷ []) (0 ∷ 2 ∷ 0 ∷ []) 2 ∷
+    -- the last lot is not compared first
+    sold 2 2 ((1 ∷ 1 ∷ 1 ∷ []) ∷ (1 ∷ 1 ∷ 1 ∷ []) ∷ []) 2
+    [] ((0 ∷ 0 ∷ 0 ∷ []) ∷ (0 ∷ 0 ∷ 0 ∷ []) ∷ [])
+    (1 ∷ 2 ∷ []) (0 ∷ 0 ∷ []) (0 ∷ 0 ∷ []) 2 ∷
+    -- table 3 with its buyers in other orders
+    sold 3 2 ((3 ∷ 0 ∷ 3 ∷ []) ∷ (0 ∷ 2 ∷ 4 ∷ []) ∷ (0 ∷ 6 ∷ 6 ∷ []) ∷ []) 13
+    (3 ∷ 3 ∷ 4 ∷ 2 ∷ 4 ∷ 2 ∷ 4 ∷ 4 ∷ []) ((2 ∷ 0 ∷ 2 ∷ []) ∷ (0 ∷ 2 ∷ 4 ∷ []) ∷ (0 ∷ 4 ∷ 4 ∷ []) ∷ [])
+    (1 ∷ 3 ∷ []) (2 ∷ 0 ∷ 2 ∷ []) (0 ∷ 0 ∷ 2 ∷ []) 9 ∷
+    sold 3 2 ((0 ∷ 6 ∷ 6 ∷ []) ∷ (0 ∷ 2 ∷ 4 ∷ []) ∷ (3 ∷ 0 ∷ 3 ∷ []) ∷ []) 13
+    (3 ∷ 3 ∷ 3 ∷ 3 ∷ 4 ∷ 4 ∷ []) ((0 ∷ 4 ∷ 4 ∷ []) ∷ (0 ∷ 2 ∷ 4 ∷ []) ∷ (2 ∷ 0 ∷ 2 ∷ []) ∷ [])
+    (3 ∷ 1 ∷ []) (2 ∷ 0 ∷ 2 ∷ []) (2 ∷ 0 ∷ 0 ∷ []) 9 ∷
+    []
+
+-- what the definitions answer for a row, and what the row has; the record has other bytes before the sale
+abbrev pub Answers : Type 0
+Answers = Sale × List ℕ × Direct
+
+abbrev pub before : Row → List ℕ
+before r = replicate (r .room) 170
+
+abbrev pub told : Row → Answers
+told r = (saleAnswer (r .sheet) (r .room), saleRecord (r .sheet) (before r), directAnswer (r .sheet))
+
+abbrev pub meant : Row → Answers
+meant r = (r .sale, over (r .sets) (before r), r .direct)
+
+abbrev pub Starred : Type 0
+Starred = map told rows ≡ map meant rows

@@ -1,0 +1,2 @@
+-- Laws of the direct way.
+pub mod Reckoning

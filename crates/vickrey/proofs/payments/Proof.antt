@@ -1,0 +1,56 @@
+-- `vickrey::payments` meets its contract. The invariant: the first k places are filled.
+use mathlib.Core.Path.{refl}
+use Prim.Native.Nat.{_-_, _≤_}
+use native.Mathlib.Omega.{arith}
+use Rattle.theory.proofs.Loops.{Filled, filled-none, filled-more, filled-all}
+use Rattle.sheet.specs.Sheets.{asSheet}
+use Rattle.totals.specs.Seats.{seat, seats}
+use Rattle.vickrey.specs.Reckoning.{directPayment}
+use Rattle.vickrey.proofs.payments.Statement.{statement}
+use Rattle.vickrey.proofs.payments.Tie as tie
+
+abbrev Inv-loop : tie.InvT-loop
+Inv-loop worths buyers lots top owners t₀ k₀ t k = (k ≤ 6) × Filled (seat buyers (directPayment (asSheet buyers lots worths))) 6 k t
+
+abbrev μ-loop : tie.MeasureT-loop
+μ-loop worths buyers lots top owners t₀ k₀ t k = 6 - k
+
+loop-holds : tie.Need-loop-holds Inv-loop μ-loop
+loop-holds c = (omega arith, filled-none _ 6 _ refl)
+
+payment-at-requires : tie.Need-payment-at-requires Inv-loop μ-loop
+payment-at-requires c κs = let p = c .before .before .pre in (omega arith, omega arith, p .2, p .3)
+
+mul-t : tie.Need-mul-t Inv-loop μ-loop
+mul-t c = omega arith
+
+array-write-t : tie.Need-array-write-t Inv-loop μ-loop
+array-write-t c = omega (arith, c .before .before .loop .inv .1 .long)
+
+add-k : tie.Need-add-k Inv-loop μ-loop
+add-k c = omega arith
+
+loop-less : tie.Need-loop-less Inv-loop μ-loop
+loop-less c = omega arith
+
+loop-again : tie.Need-loop-again Inv-loop μ-loop
+loop-again c = (omega arith, filled-more _ 6 _ _ _ (omega arith) (c .payment-at .ensures) (c .before .before .loop .inv .1))
+
+returns : tie.Need-returns Inv-loop μ-loop
+unfolding seats
+returns c = filled-all _ 6 _ _ (omega arith) (c .before .loop .inv .1)
+
+pub payments-spec : {M : Type 1} → statement M
+payments-spec =
+    tie.close
+    (tie.spec
+    Inv-loop
+    μ-loop
+    loop-holds
+    payment-at-requires
+    mul-t
+    array-write-t
+    add-k
+    loop-less
+    loop-again
+    returns)

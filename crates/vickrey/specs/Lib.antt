@@ -1,0 +1,2 @@
+-- The owners and payments of the direct way.
+pub mod Reckoning
