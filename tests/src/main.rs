@@ -1,9 +1,11 @@
-//! Runs every comparison of the library with the Rust reckoning. SEED chooses the random sheets.
+//! Runs every comparison of the library with the Rust reckoning, on two threads. SEED chooses the
+//! random sheets.
 
 #![forbid(unsafe_code)]
 
 use std::env;
 use std::process::ExitCode;
+use std::thread;
 
 use comparison::generator::Generator;
 use comparison::sales;
@@ -18,15 +20,31 @@ fn main() -> ExitCode {
         return ExitCode::FAILURE;
     };
     println!("seed {seed:#x}");
-    let mut tally = Tally::new(seed);
-    let mut generator = Generator::new(seed);
-    sheets::compare(&mut tally, &mut generator);
-    sales::compare(&mut tally, &mut generator);
-    println!("{} passed, {} failed", tally.passed(), tally.failed());
-    match tally.failed() {
+    let tallies = compare(seed);
+    for tally in &tallies {
+        print!("{}", tally.report());
+    }
+    let passed: u64 = tallies.iter().map(Tally::passed).sum();
+    let failed: u64 = tallies.iter().map(Tally::failed).sum();
+    println!("{passed} passed, {failed} failed");
+    match failed {
         0 => ExitCode::SUCCESS,
         _ => ExitCode::FAILURE,
     }
+}
+
+/// Runs the two halves of the groups at once, each with a seed of its own.
+fn compare(seed: u64) -> [Tally; 2] {
+    let seeds = [seed, Generator::new(seed).draw()];
+    let mut tallies = seeds.map(Tally::new);
+    let [first, second] = &mut tallies;
+    thread::scope(|scope| {
+        scope.spawn(|| sales::compare_direct(second, &mut Generator::new(seeds[1])));
+        let generator = &mut Generator::new(seeds[0]);
+        sheets::compare(first, generator);
+        sales::compare(first, generator);
+    });
+    tallies
 }
 
 /// The seed that the environment names, or the fixed one.

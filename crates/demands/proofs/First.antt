@@ -22,14 +22,14 @@ use Rattle.sale.specs.Answers.{saleFault, demandFault, refusedDemand, demandAns
 use Rattle.sale.proofs.Theorems as sales
 use Rattle.direct.specs.declared.Direct.{Direct}
 use Rattle.direct.specs.Answers.{directAnswer}
-use Rattle.demands.specs.Claims.{Answers, Demand-1}
+use Rattle.demands.specs.Claims.{Numbered, Demand-1}
 use Rattle.sheet.proofs.Forms.{told-number, told-place, told-again, asked, asked-first, asked-yes, asked-no}
 use Rattle.sale.proofs.Opening.{saleForm, demandForm, sale-told, sale-number, sale-open, sale-closed}
 use Rattle.direct.proofs.Opening.{directForm, direct-told, direct-number, direct-closed}
 
 -- the sheet's fault, none, or that of the entry's own question
 module _ (b : List ℕ) (own : ℕ) (Own : Type 0) (high : 9 ≤ own) where
-  refused-first : sheetFault b .number ≢ 0 → Answers b own Own (sheetFault b .number) (sheetFault b .place)
+  refused-first : sheetFault b .number ≢ 0 → Numbered b own Own (sheetFault b .number) (sheetFault b .place)
   refused-first h =
       record {
         accepts = (λ z. absurd (h z), λ y. absurd (h (all-yes b .1 (y .0))));
@@ -40,7 +40,7 @@ module _ (b : List ℕ) (own : ℕ) (Own : Type 0) (high : 9 ≤ own) where
       }
 
   module _ (z : sheetFault b .number ≡ 0) where
-    accepted : Own → Answers b own Own 0 0
+    accepted : Own → Numbered b own Own 0 0
     accepted y =
         record {
           accepts = (λ _. (all-yes b .0 z, y), λ _. refl);
@@ -50,7 +50,7 @@ module _ (b : List ℕ) (own : ℕ) (Own : Type 0) (high : 9 ≤ own) where
           a-place = λ l _. absurd (omega arith);
         }
 
-    refused-last : (Own → ⊥) → Answers b own Own own 0
+    refused-last : (Own → ⊥) → Numbered b own Own own 0
     refused-last n =
         record {
           accepts = (λ e. absurd (omega arith), λ c. absurd (n (c .1)));
@@ -61,8 +61,8 @@ module _ (b : List ℕ) (own : ℕ) (Own : Type 0) (high : 9 ≤ own) where
         }
 
   -- x is the answer to the entry's own question
-  pub answers-asked : (x : _) → Means x Own → Answers b own Own (asked own x (sheetFault b) .number) (asked own x (sheetFault b) .place)
-  answers-asked x means =
+  pub numbered-asked : (x : _) → Means x Own → Numbered b own Own (asked own x (sheetFault b) .number) (asked own x (sheetFault b) .place)
+  numbered-asked x means =
       let f = sheetFault b in
       by-test (accepts f)
       (λ t.
@@ -71,8 +71,8 @@ module _ (b : List ℕ) (own : ℕ) (Own : Type 0) (high : 9 ≤ own) where
       (λ t. let h = eqb-false (f .number) 0 t in rw (asked-first own x f h) (refused-first h))
 
 -- no question of its own
-answers-plain : (b : List ℕ) → Answers b 9 (Unit {0}) (sheetFault b .number) (sheetFault b .place)
-answers-plain b =
+numbered-plain : (b : List ℕ) → Numbered b 9 (Unit {0}) (sheetFault b .number) (sheetFault b .place)
+numbered-plain b =
     by-test (accepts (sheetFault b))
     (λ t. let z = eqb-true (sheetFault b .number) 0 t in rw (z, place-zero b (omega arith)) (accepted b 9 (Unit {0}) (omega arith) z tt))
     (λ t. refused-first b 9 (Unit {0}) (omega arith) (eqb-false (sheetFault b .number) 0 t))
@@ -91,30 +91,30 @@ own-place own x f some h z =
     let first = asked-first own x f (eqb-false (f .number) 0 t) in
     rw first (h (ap (λ (g : Fault). g .number) (sym first) ∙ z)))
 
-same-answers : {b : List ℕ} {own : ℕ} {Own : Type 0} {n n′ p p′ : ℕ} → n ≡ n′ → p ≡ p′ → Answers b own Own n′ p′ → Answers b own Own n p
-same-answers en ep a = rw (en, ep) a
+same-numbers : {b : List ℕ} {own : ℕ} {Own : Type 0} {n n′ p p′ : ℕ} → n ≡ n′ → p ≡ p′ → Numbered b own Own n′ p′ → Numbered b own Own n p
+same-numbers en ep a = rw (en, ep) a
 
 no-fault : (b : List ℕ) → sheetFault b .number ≡ 0 → sheetFault b .place ≡ 0
 no-fault b z = place-zero b (omega arith)
 
-demand-answers : (b : List ℕ) (i : ℕ) (ps : List ℕ) → Answers b 10 (Among (sheetOf b .buyers) 1 i) (demandAnswer b i ps .number) (demandAnswer b i ps .place)
+demand-numbers : (b : List ℕ) (i : ℕ) (ps : List ℕ) → Numbered b 10 (Among (sheetOf b .buyers) 1 i) (demandAnswer b i ps .number) (demandAnswer b i ps .place)
 unfolding demandAnswer demandForm
-demand-answers b i ps =
+demand-numbers b i ps =
     let x = between (sheetOf b .buyers) i in
-    same-answers (told-number (demandForm b i ps) (demandFault b i)) (told-place (demandForm b i ps) (demandFault b i) (own-place 10 x (sheetFault b) (omega arith) (no-fault b)))
-    (answers-asked b 10 _ (omega arith) x (between-means (sheetOf b .buyers) i))
+    same-numbers (told-number (demandForm b i ps) (demandFault b i)) (told-place (demandForm b i ps) (demandFault b i) (own-place 10 x (sheetFault b) (omega arith) (no-fault b)))
+    (numbered-asked b 10 _ (omega arith) x (between-means (sheetOf b .buyers) i))
 
 demand-refused : (b : List ℕ) (i : ℕ) (ps : List ℕ) → demandAnswer b i ps .number ≢ 0 → demandAnswer b i ps ≡ refusedDemand (fault (demandAnswer b i ps .number) (demandAnswer b i ps .place))
 unfolding demandAnswer demandForm
 demand-refused b i ps h = told-again (demandForm b i ps) (demandFault b i) h
 
-sale-answers : (b o o′ : List ℕ) (r : Sale) → SaleSays b o o′ r → Answers b 9 (roundLimit (sheetOf b) ≤ length o) (r .number) (r .place)
+sale-numbers : (b o o′ : List ℕ) (r : Sale) → SaleSays b o o′ r → Numbered b 9 (roundLimit (sheetOf b) ≤ length o) (r .number) (r .place)
 unfolding saleForm
-sale-answers b o o′ r says =
+sale-numbers b o o′ r says =
     let x = leb (roundLimit (sheetOf b)) (length o) in
-    same-answers (sale-number b o o′ r says)
+    same-numbers (sale-number b o o′ r says)
     (ap (λ (s : Sale). s .place) (sale-told b o o′ r says) ∙ told-place (saleForm b) (saleFault b (length o)) (own-place 9 x (sheetFault b) (omega arith) (no-fault b)))
-    (answers-asked b 9 _ (omega arith) x (leb-means (roundLimit (sheetOf b)) (length o)))
+    (numbered-asked b 9 _ (omega arith) x (leb-means (roundLimit (sheetOf b)) (length o)))
 
 settled-uce : (b o o′ : List ℕ) (r : Sale) → SaleSays b o o′ r → r .number ≡ 0 → UCE (sheetOf b) (r .prices)
 unfolding settledSale
@@ -122,10 +122,10 @@ settled-uce b o o′ r says z =
     let open′ = sale-open b o o′ r says z in
     subst (λ ps. UCE (sheetOf b) ps) (sym (ap (λ (s : Sale). s .prices) (open′ .answer))) (sales.demand-2 b (open′ .accepted) .last-uce)
 
-direct-answers : (b : List ℕ) (d : Direct) → d ≡ directAnswer b → Answers b 9 (Unit {0}) (d .number) (d .place)
+direct-numbers : (b : List ℕ) (d : Direct) → d ≡ directAnswer b → Numbered b 9 (Unit {0}) (d .number) (d .place)
 unfolding directForm
-direct-answers b d e =
-    same-answers (direct-number b d e) (ap (λ (s : Direct). s .place) (direct-told b d e) ∙ told-place (directForm b) (sheetFault b) (no-fault b)) (answers-plain b)
+direct-numbers b d e =
+    same-numbers (direct-number b d e) (ap (λ (s : Direct). s .place) (direct-told b d e) ∙ told-place (directForm b) (sheetFault b) (no-fault b)) (numbered-plain b)
 
 read-again : (b : List ℕ) → worthsRead b .number ≢ 0 → worthsRead b ≡ refusal (worthsRead b .number) (worthsRead b .place)
 unfolding worthsRead worthsBy refusal
@@ -135,14 +135,14 @@ pub demand-1 : Demand-1
 unfolding sheetRead worthsRead worthsBy
 demand-1 =
     record {
-      reads = answers-plain;
-      reads-worths = answers-plain;
+      reads = numbered-plain;
+      reads-worths = numbered-plain;
       reads-refused = read-again;
-      demands = demand-answers;
+      demands = demand-numbers;
       demands-refused = demand-refused;
-      sells = sale-answers;
+      sells = sale-numbers;
       sells-settled = settled-uce;
       sells-refused = sale-closed;
-      directs = direct-answers;
+      directs = direct-numbers;
       directs-refused = direct-closed;
     }

@@ -22,7 +22,7 @@ use Rattle.direct.specs.Answers.{refusedDirect, directAnswer}
 
 -- Demand 1. "An entry accepts a sheet if every question that the entry asks gets a yes": what number and place it can answer. `Own` is what the question asks
 -- that the entry alone puts, after 1 to 8, and `own` the number of its refusal.
-pub record Answers (b : List ℕ) (own : ℕ) (Own : Type 0) (number place : ℕ) : Type 0 where
+pub record Numbered (b : List ℕ) (own : ℕ) (Own : Type 0) (number place : ℕ) : Type 0 where
   pub accepts : (number ≡ 0) ↔ (((k : ℕ) → Question b k) × Own)
   pub first-no : (k : ℕ) → 1 ≤ k → k ≤ 8 → (number ≡ k) ↔ (((j : ℕ) → j < k → Question b j) × (Question b k → ⊥))
   pub range : (number ≤ 8) ⊎ ((number ≡ own) × (Own → ⊥))
@@ -30,19 +30,19 @@ pub record Answers (b : List ℕ) (own : ℕ) (Own : Type 0) (number place : ℕ
   pub a-place : 6 ≤ number → number ≤ 8 → (13 ≤ place) × (place < length b)
 
 pub record Demand-1 : Type 0 where
-  -- reading
-  pub reads : (b : List ℕ) → let r = sheetRead b in Answers b 9 (Unit {0}) (r .number) (r .place)
-  pub reads-worths : (b : List ℕ) → let r = worthsRead b in Answers b 9 (Unit {0}) (r .number) (r .place)
+  -- reading, which has no question of its own: none can get a no
+  pub reads : (b : List ℕ) → let r = sheetRead b in Numbered b 9 (Unit {0}) (r .number) (r .place)
+  pub reads-worths : (b : List ℕ) → let r = worthsRead b in Numbered b 9 (Unit {0}) (r .number) (r .place)
   pub reads-refused : (b : List ℕ) → let r = worthsRead b in r .number ≢ 0 → r ≡ refusal (r .number) (r .place)
   -- a demand answer
-  pub demands : (b : List ℕ) (i : ℕ) (ps : List ℕ) → let r = demandAnswer b i ps in Answers b 10 (Among (sheetOf b .buyers) 1 i) (r .number) (r .place)
+  pub demands : (b : List ℕ) (i : ℕ) (ps : List ℕ) → let r = demandAnswer b i ps in Numbered b 10 (Among (sheetOf b .buyers) 1 i) (r .number) (r .place)
   pub demands-refused : (b : List ℕ) (i : ℕ) (ps : List ℕ) → let r = demandAnswer b i ps in r .number ≢ 0 → r ≡ refusedDemand (fault (r .number) (r .place))
   -- a sale: 0 means settled, and a refusal leaves the record as it was
-  pub sells : (b o o′ : List ℕ) (r : Sale) → SaleSays b o o′ r → Answers b 9 (roundLimit (sheetOf b) ≤ length o) (r .number) (r .place)
+  pub sells : (b o o′ : List ℕ) (r : Sale) → SaleSays b o o′ r → Numbered b 9 (roundLimit (sheetOf b) ≤ length o) (r .number) (r .place)
   pub sells-settled : (b o o′ : List ℕ) (r : Sale) → SaleSays b o o′ r → r .number ≡ 0 → UCE (sheetOf b) (r .prices)
   pub sells-refused : (b o o′ : List ℕ) (r : Sale) → SaleSays b o o′ r → r .number ≢ 0 → (r ≡ refusedSale (fault (r .number) (r .place))) × (o′ ≡ o)
   -- the direct way
-  pub directs : (b : List ℕ) (d : Direct) → d ≡ directAnswer b → Answers b 9 (Unit {0}) (d .number) (d .place)
+  pub directs : (b : List ℕ) (d : Direct) → d ≡ directAnswer b → Numbered b 9 (Unit {0}) (d .number) (d .place)
   pub directs-refused : (b : List ℕ) (d : Direct) → d ≡ directAnswer b → d .number ≢ 0 → d ≡ refusedDirect (fault (d .number) (d .place))
 
 -- Demand 2, of a settled sale's answer and record

@@ -11,6 +11,8 @@ use Rattle.totals.specs.Seats.{seats}
 use Rattle.sheet.specs.declared.Fault.{Fault}
 use Rattle.sheet.specs.Sheets.{Sheet, sheetOf}
 use Rattle.sheet.specs.Questions.{fault, accepts, onward, ask, between, sheetFault}
+use Rattle.rounds.specs.declared.State.{State}
+use Rattle.closing.specs.declared.Closing.{Closing}
 use Rattle.sale.specs.declared.Demand.{Demand}
 use Rattle.sale.specs.declared.Sale.{Sale}
 use Rattle.sale.specs.Words.{demandSet, isKeen}
@@ -61,6 +63,21 @@ settledSale w =
       owners = four (ownersBy w (lastPrices w));
       discounts = seats (w .buyers) (discountFor w (lastPrices w));
       payments = seats (w .buyers) (paymentFor w (lastPrices w));
+    }
+
+-- the answer as it is put together, of rounds and a closing
+abbrev pub soldBy : ℕ → ℕ → State → Closing → Sale
+soldBy m n s c =
+    record {
+      number = 0;
+      place = 0;
+      buyers = m;
+      lots = n;
+      rounds = s .rounds;
+      prices = s .prices;
+      owners = c .owners;
+      discounts = c .discounts;
+      payments = c .payments;
     }
 
 unfoldable pub saleAnswer : List ℕ → ℕ → Sale

@@ -19,7 +19,7 @@ use Rattle.sheet.specs.Answers.{worthsRead}
 use Rattle.reading.proofs.Reading.{Accepted, read-refused, read-accepted}
 use Rattle.sale.specs.declared.Sale.{Sale}
 use Rattle.sale.specs.Rounds.{roundLimit, saleSets, lastPrices, ownersBy, discountFor, paymentFor}
-use Rattle.sale.specs.Answers.{refusedSale, settledSale, saleAnswer, saleRecord, SaleSays}
+use Rattle.sale.specs.Answers.{refusedSale, settledSale, soldBy, saleAnswer, saleRecord, SaleSays}
 use Rattle.sale.proofs.Instance.{shape, worths}
 use Rattle.selling.proofs.Demanding.{fault-number}
 
@@ -81,20 +81,10 @@ module _ (b : List ℕ) (r : Worths) (e : r ≡ worthsRead b) (o : List ℕ) whe
         -- s are the rounds, c the closing
         pub sale-settled : (s : State) (o′ : List ℕ) → Sold (r .buyers) (r .lots) (r .worths) l o o′ s →
             (c : Closing) → c ≡ saleClosing (r .buyers) (r .lots) (r .worths) (s .prices) →
-            SaleSays b o o′ (record {
-              number = 0;
-              place = 0;
-              buyers = r .buyers;
-              lots = r .lots;
-              rounds = s .rounds;
-              prices = s .prices;
-              owners = c .owners;
-              discounts = c .discounts;
-              payments = c .payments;
-            })
+            (a : Sale) → a ≡ soldBy (r .buyers) (r .lots) s c → SaleSays b o o′ a
         unfolding saleAnswer saleRecord settledSale saleSets lastPrices ownersBy discountFor paymentFor
-        sale-settled s o′ sold c ec =
+        sale-settled s o′ sold c ec a ea =
             record {
-              answer = rw (all-yes, enough, ec, sold .prices, sold .rounds, limit-is, told .buyers, told .lots, told .worths) refl;
+              answer = rw (all-yes, enough, ea, ec, sold .prices, sold .rounds, limit-is, told .buyers, told .lots, told .worths) refl;
               bytes = rw (all-yes, enough) (sold .bytes ∙ rw (limit-is, told .buyers, told .lots, told .worths) refl);
             }

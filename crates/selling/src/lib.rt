@@ -1,10 +1,5 @@
 // Sales by rounds of a lot sheet, and demand answers.
 ghost use mathlib.Core.Path.{_≡_};
-ghost use Prim.Native.Nat.{_≤_};
-ghost use Rattle.numbers.specs.Numbers.{Is};
-ghost use Rattle.owners.specs.Singles.{AtMost};
-ghost use Rattle.sheet.specs.Sheets.{asSheet};
-ghost use Rattle.sale.specs.Rounds.{roundLimit};
 ghost use Rattle.sale.specs.Answers.{demandAnswer, SaleSays};
 use sale::Demand;
 use sale::Sale;
@@ -31,21 +26,6 @@ pub fn buyer_demand(sheet: &[u8], buyer: u32, prices: [u16; 96]) -> Demand
     }
 }
 
-// Question 9's sum, over buyers, of the worth of all lots together.
-fn round_limit(worths: &[u16; 96], m: usize, n: usize) -> u32
-    requires { ⌜ (m ≤ 6) × (1 ≤ n) × (n ≤ 4) × AtMost 9999 (now worths) ⌝ }
-    ensures { λ r. ⌜ Is (roundLimit (asSheet m n (now (worths .entry)))) r 59994 ⌝ }
-{
-    let top = numbers::power(n) - 1;
-    let mut total: u32 = 0;
-    let mut i: usize = 1;
-    while i <= m {
-        total += demand::worth_of(worths, i, top);
-        i += 1;
-    }
-    total
-}
-
 // Runs the sale of a sheet. Each round writes its set's number to the record's next byte.
 pub fn run_sale(sheet: &[u8], log: &mut [u8]) -> Sale
     ensures { λ r. ⌜ SaleSays (now (sheet .entry)) (now (log .entry)) (now (log .exit)) r ⌝ }
@@ -57,25 +37,12 @@ pub fn run_sale(sheet: &[u8], log: &mut [u8]) -> Sale
     let worths = read.worths;
     let m = read.buyers as usize;
     let n = read.lots as usize;
-    let limit = round_limit(&worths, m, n);
+    let limit = sale::round_limit(&worths, m, n);
     if log.len() < limit as usize {
         return sale::refused_sale(9, 0);
     }
     let s = rounds::run_rounds(&worths, m, n, log, limit);
     let prices = s.prices;
     let c = closing::close_sale(&worths, &prices, m, n);
-    let owners = c.owners;
-    let discounts = c.discounts;
-    let payments = c.payments;
-    Sale {
-        number: 0,
-        place: 0,
-        buyers: read.buyers,
-        lots: read.lots,
-        rounds: s.rounds,
-        prices,
-        owners,
-        discounts,
-        payments,
-    }
+    sale::settled(read.buyers, read.lots, s, c)
 }

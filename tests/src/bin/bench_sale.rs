@@ -70,6 +70,7 @@ fn compare(count: usize) -> ExitCode {
         let record = generator.bytes(record_needed(&sheet));
         tally.sale(&bytes_of(&sheet), &record);
     }
+    print!("{}", tally.report());
     println!("{} passed, {} failed", tally.passed(), tally.failed());
     match tally.failed() {
         0 => ExitCode::SUCCESS,

@@ -14,7 +14,7 @@ mod records;
 mod refusals;
 mod tables;
 
-/// Runs every group.
+/// Runs the groups of sales and demand answers.
 pub fn compare(tally: &mut Tally, generator: &mut Generator) {
     document::compare(tally);
     tables::compare(tally, generator);
@@ -23,6 +23,11 @@ pub fn compare(tally: &mut Tally, generator: &mut Generator) {
     refusals::compare(tally, generator);
     demands::compare(tally, generator);
     full::compare(tally, generator);
+}
+
+/// Runs the groups of the direct way, and the search for a gain. They take about as long as all
+/// other groups of sheets and sales.
+pub fn compare_direct(tally: &mut Tally, generator: &mut Generator) {
     direct::compare(tally, generator);
     gains::compare(tally, generator);
 }

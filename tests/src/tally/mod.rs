@@ -13,15 +13,16 @@ mod sales;
 pub use direct::Pair;
 pub use sales::Told;
 
-/// The most differences that are printed.
+/// The most differences that a tally reports.
 const SHOWN: usize = 10;
 
 /// Columns drawn at random for each compared sheet.
 const DRAWN: usize = 4;
 
-/// The counts so far, and a generator of columns apart from that of the sheets.
+/// The report and the counts so far, and a generator of columns apart from that of the sheets.
 pub struct Tally {
     columns: Generator,
+    report: String,
     shown: usize,
     passed: u64,
     failed: u64,
@@ -31,10 +32,16 @@ impl Tally {
     pub fn new(seed: u64) -> Self {
         Tally {
             columns: Generator::new(!seed),
+            report: String::new(),
             shown: 0,
             passed: 0,
             failed: 0,
         }
+    }
+
+    /// A line for each group, after the differences found in it.
+    pub fn report(&self) -> &str {
+        &self.report
     }
 
     pub fn passed(&self) -> u64 {
@@ -45,12 +52,12 @@ impl Tally {
         self.failed
     }
 
-    /// Runs a group of comparisons and prints how many it made.
+    /// Runs a group of comparisons and reports how many it made.
     pub fn group(&mut self, name: &str, compare: impl FnOnce(&mut Self)) {
         let before = self.passed + self.failed;
         compare(self);
         let compared = self.passed + self.failed - before;
-        println!("{name}: {compared} compared");
+        self.report += &format!("{name}: {compared} compared\n");
     }
 
     /// Compares the readers' whole answers to a sheet, and their fields at some of its columns.
@@ -120,8 +127,8 @@ impl Tally {
         self.failed += 1;
         for difference in differences.iter().take(SHOWN - self.shown) {
             self.shown += 1;
-            println!("difference in the sheet \"{}\"", sheet.escape_ascii());
-            println!("{difference}");
+            let sheet = sheet.escape_ascii();
+            self.report += &format!("difference in the sheet \"{sheet}\"\n{difference}\n");
         }
     }
 }

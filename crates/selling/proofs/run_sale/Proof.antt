@@ -61,19 +61,22 @@ close-sale-requires c κs =
     let (few, some, short, low) = limit-asks (z .sheet .now) (p .read-worths .result) (p .read-worths .ensures) (z .log .now) (e .if1 .left) in
     (few, short)
 
+settled-requires : tie.Need-settled-requires
+settled-requires c κs = search needs
+
 same-length : tie.Need-same-length
 same-length c = search needs
 
 returns-3 : tie.Need-returns-3
 returns-3 c =
-    let k = c .before .before .before in
+    let k = c .before in
     let t = k .before .before .before .before .before .before in
     let l = t .before .before .before .before in
     let e = l .before .before .before .before .before in
     let p = e .before .before in
     let z = p .before .before .before .args in
     sale-settled (z .sheet .now) (p .read-worths .result) (p .read-worths .ensures) (z .log .now) (e .if1 .left) (l .round-limit .result) (l .round-limit .ensures .is) (omega arith) (l .round-limit .ensures .most)
-    (t .run-rounds .result) _ (t .run-rounds .ensures) (k .close-sale .result) (k .close-sale .ensures)
+    (t .run-rounds .result) _ (t .run-rounds .ensures) (k .close-sale .result) (k .close-sale .ensures) (c .settled .result) (c .settled .ensures)
 
 pub run-sale-spec : {M : Type 1} → statement M
 run-sale-spec =
@@ -90,5 +93,6 @@ run-sale-spec =
     returns-2
     run-rounds-requires
     close-sale-requires
+    settled-requires
     same-length
     returns-3)

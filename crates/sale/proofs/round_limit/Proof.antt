@@ -1,4 +1,4 @@
--- `selling::round_limit` meets its contract. The invariant: the sum so far and that of the buyers from i on make up the sum.
+-- `sale::round_limit` meets its contract. The invariant: the sum so far and that of the buyers from i on make up the sum.
 use mathlib.Core.Path.{_≡_, refl, ap, _∙_}
 use mathlib.Core.List.{List}
 use Prim.Native.Nat.{ℕ, _+_, _-_, _*_, _^_, _≤_}
@@ -9,8 +9,8 @@ use Rattle.theory.proofs.Loops.{sum-more, sum-done}
 use Rattle.numbers.proofs.Numbers.{pow-small, pow-some}
 use Rattle.owners.specs.Singles.{worth}
 use Rattle.owners.proofs.Singles.{worth-small}
-use Rattle.selling.proofs.round_limit.Statement.{statement}
-use Rattle.selling.proofs.round_limit.Tie as tie
+use Rattle.sale.proofs.round_limit.Statement.{statement}
+use Rattle.sale.proofs.round_limit.Tie as tie
 
 abbrev all-lots : List ℕ → ℕ → ℕ → ℕ
 all-lots worths n i = worth worths i (2 ^ n - 1)
