@@ -1,7 +1,7 @@
 -- Fields of a lot sheet: a number right-justified in six columns. Offers the classes of bytes, the field at a column (`fieldAt`), what reading one
 -- field answers (`fieldRead`), and the columns in which a number is written (`columns`).
 use mathlib.Core.Bool.{Bool, true, false, _&&_}
-use mathlib.Core.List.{List, [], _∷_}
+use mathlib.Core.List.{List, [], _∷_, _++_}
 use Prim.Native.Nat.{ℕ, zero, suc, _+_, _-_, _*_, _/_, _%_, _^_}
 use lib.Dec.{eqb, ltb, leb}
 use lib.ListN.{length, take, drop}
@@ -71,3 +71,15 @@ digits (suc k) v = (48 + v / 10 ^ k) ∷ digits k (v % 10 ^ k)
 abbrev pub columns : ℕ → ℕ → List ℕ
 columns zero v = []
 columns (suc k) v = pick (leb 1 k && ltb v (10 ^ k)) (32 ∷ columns k v) (digits (suc k) v)
+
+-- numbers in six columns each; with a line end, a line; and lines
+abbrev pub fieldsOf : List ℕ → List ℕ
+fieldsOf [] = []
+fieldsOf (v ∷ vs) = columns 6 v ++ fieldsOf vs
+
+abbrev pub lineOf : List ℕ → List ℕ
+lineOf vs = fieldsOf vs ++ (10 ∷ [])
+
+abbrev pub linesOf : List (List ℕ) → List ℕ
+linesOf [] = []
+linesOf (l ∷ ls) = lineOf l ++ linesOf ls

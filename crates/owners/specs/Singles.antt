@@ -1,9 +1,9 @@
 -- The sale of document 01, by lists of ninety-six worths and prices: single lots, of which some may stay unsold. Offers the auction `sale`,
 -- the rounds from `startPrices` on (`saleSets`, `salePrices`), and whether prices are settled (`saleChoice`).
 -- The numbers 96 and 2 ^ 6 stand under definitions that unfold only where a proof asks for it.
-use mathlib.Core.List.{List, _++_}
+use mathlib.Core.List.{List}
 use Prim.Native.Nat.{ℕ, _-_, _^_, _≤_, _<_}
-use lib.ListN.{length, getD, drop, replicate}
+use lib.ListN.{getD, replicate}
 use Rattle.theory.specs.Sums.{Among}
 use Rattle.theory.specs.Markets.{Table}
 use Rattle.theory.specs.Auction.{Auction}
@@ -39,7 +39,3 @@ salePrices m n ws f = lastPrices (sale m n) (plain m) (2 ^ n) (worth ws) (zeros 
 
 unfoldable pub saleChoice : ℕ → ℕ → List ℕ → List ℕ → ℕ
 saleChoice m n ws ps = choose (sale m n) (plain m) (2 ^ n) (worth ws) ps
-
--- "Bytes after the last round keep their old values": the record ys with xs written at its front
-abbrev pub over : List ℕ → List ℕ → List ℕ
-over xs ys = xs ++ drop (length xs) ys

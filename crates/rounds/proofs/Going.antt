@@ -5,16 +5,16 @@ use mathlib.Core.Bool.{true, false}
 use mathlib.Core.List.{List, [], _∷_, _++_, append-assoc, append-nil}
 use Prim.Native.Nat.{ℕ, suc, _+_, _-_, _≤_, _<_}
 use native.Mathlib.Nat.{add-zero, sub-zero}
-use native.Mathlib.Numerals.{add-one}
 use native.Mathlib.Omega.{arith}
 use lib.Dec.{eqb}
 use lib.ListN.{length, take, drop, set, length-append, length-take, length-drop, length-set}
-use lib.Seq.{drop-cons, set-append-seam}
 use borrow.Rule.Slice.PartMut.{putMid, set-mid-at, put-same}
 use borrow.Author.Tests.{eq-eqb, ne-eqb, eqb-true, eqb-false}
+use Rattle.theory.proofs.Over.{over-more}
 use Rattle.theory.specs.Rounds.{on, choices, after}
 use Rattle.theory.proofs.Tests.{by-test}
-use Rattle.owners.specs.Singles.{AtMost, over}
+use Rattle.owners.specs.Singles.{AtMost}
+use Rattle.theory.specs.Lists.{over}
 use Rattle.rounds.specs.declared.State.{State}
 use Rattle.rounds.specs.Rounds.{Round}
 
@@ -24,10 +24,6 @@ tail-set l last at b h e =
 
 tail-same : (l last : List ℕ) (at : ℕ) → last ≡ take (length l - at) (drop at l) → putMid at (length l - at) l last ≡ l
 tail-same l last at e = rw e (put-same at (length l - at) l)
-
-over-more : (xs ys : List ℕ) (b n : ℕ) → length xs ≡ n → n < length ys → set (over xs ys) n b ≡ over (xs ++ (b ∷ [])) ys
-over-more xs ys b n e h =
-    rw (e, drop-cons ys n 0 h, ← e, set-append-seam, length-append, add-one, append-assoc) refl
 
 -- what rounds have done that ended
 pub record Done (choose : List ℕ → ℕ) (step : ℕ → List ℕ → List ℕ) (limit : ℕ) (start o l : List ℕ) (r : State) : Type 0 where

@@ -16,7 +16,8 @@ use Rattle.owners.specs.Owners.{allocations, zeroFirst, single}
 use Rattle.owners.specs.Prices.{plain, zeros}
 use Rattle.owners.specs.Sales.{choose, sets, lastPrices, limit}
 use Rattle.owners.specs.Quick.{left, roster, valueOf}
-use Rattle.owners.specs.Singles.{worth, AtMost, Topped, sale, startPrices, saleSets, salePrices, saleChoice, over}
+use Rattle.owners.specs.Singles.{worth, AtMost, Topped, sale, startPrices, saleSets, salePrices, saleChoice}
+use Rattle.theory.specs.Lists.{over}
 use Rattle.owners.proofs.Quick.{quick-rounds, quick-last, quick-settled, roster-is, walk-values}
 use Rattle.owners.proofs.Singles.{limit-small, sale-hall, sale-worths, sale-settled}
 use Rattle.rounds.specs.declared.State.{State}

@@ -10,7 +10,8 @@ use Rattle.theory.specs.Coalitions.{lowestBy}
 use Rattle.owners.specs.Owners.{member}
 use Rattle.owners.specs.Prices.{plain}
 use Rattle.owners.specs.Quick.{left, raisedBy, roster}
-use Rattle.owners.specs.Singles.{worth, AtMost, Topped, saleSets, salePrices, saleChoice, over}
+use Rattle.owners.specs.Singles.{worth, AtMost, Topped, saleSets, salePrices, saleChoice}
+use Rattle.theory.specs.Lists.{over}
 use Rattle.rounds.specs.declared.State.{State}
 use Rattle.supply.specs.Supply.{shift, at}
 

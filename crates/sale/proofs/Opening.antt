@@ -7,7 +7,7 @@ use native.Mathlib.Omega.{arith}
 use lib.Dec.{leb}
 use lib.ListN.{length}
 use borrow.Author.Tests.{eq-eqb, ne-eqb, leb-true}
-use Rattle.owners.specs.Singles.{over}
+use Rattle.theory.specs.Lists.{over}
 use Rattle.sheet.specs.Sheets.{sheetOf}
 use Rattle.sheet.specs.Questions.{fault, sheetFault}
 use Rattle.sheet.proofs.Forms.{Form, told, told-number, told-yes, told-again, asked-none}

@@ -5,7 +5,7 @@ use mathlib.Core.List.{List}
 use Prim.Native.Nat.{ℕ}
 use lib.Dec.{leb}
 use lib.ListN.{length, replicate}
-use Rattle.owners.specs.Singles.{over}
+use Rattle.theory.specs.Lists.{over}
 use Rattle.totals.specs.Walks.{four}
 use Rattle.totals.specs.Seats.{seats}
 use Rattle.sheet.specs.declared.Fault.{Fault}

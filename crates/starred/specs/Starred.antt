@@ -4,24 +4,16 @@ use mathlib.Core.Path.{_≡_}
 use mathlib.Core.List.{List, [], _∷_, _++_, map}
 use Prim.Native.Nat.{ℕ, _-_}
 use lib.ListN.{length, take, set, replicate}
-use Rattle.fields.specs.Fields.{columns}
+use Rattle.fields.specs.Fields.{linesOf}
 use Rattle.sheet.specs.Questions.{fault}
-use Rattle.owners.specs.Singles.{over}
+use Rattle.theory.specs.Lists.{over}
 use Rattle.totals.specs.Walks.{four}
 use Rattle.sale.specs.declared.Sale.{Sale}
 use Rattle.sale.specs.Answers.{refusedSale, saleAnswer, saleRecord}
 use Rattle.direct.specs.declared.Direct.{Direct}
 use Rattle.direct.specs.Answers.{refusedDirect, directAnswer}
 
--- a line of numbers, in six columns each, with its line end; and a sheet of m buyers and n lots
-abbrev pub lineOf : List ℕ → List ℕ
-lineOf [] = 10 ∷ []
-lineOf (v ∷ vs) = columns 6 v ++ lineOf vs
-
-abbrev pub linesOf : List (List ℕ) → List ℕ
-linesOf [] = []
-linesOf (l ∷ ls) = lineOf l ++ linesOf ls
-
+-- the bytes of a sheet of m buyers and n lots
 abbrev pub sheetBy : ℕ → ℕ → List (List ℕ) → List ℕ
 sheetBy m n worths = linesOf ((m ∷ n ∷ []) ∷ worths)
 

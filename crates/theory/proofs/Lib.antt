@@ -5,6 +5,7 @@ pub mod Sums
 pub mod Tests
 pub mod Lists
 pub mod Loops
+pub mod Over
 pub mod Rounds
 pub mod Duality
 pub mod Payments

@@ -1,8 +1,9 @@
 -- Lists: the greatest value, sums, the members that pass a test, the first that passes, order, lists of values.
--- Offers `_∈_`, `most`, `sumOver`, `keep`, `first`, `Ordered`, `tabulate` and `upTo`.
+-- Offers `_∈_`, `most`, `sumOver`, `keep`, `first`, `Ordered`, `tabulate`, `upTo` and `over`.
 use mathlib.Core.Bool.{Bool}
-use mathlib.Core.List.{List, [], _∷_, List·Memᴰ}
+use mathlib.Core.List.{List, [], _∷_, _++_, List·Memᴰ}
 use Prim.Native.Nat.{ℕ, zero, suc, max, _+_}
+use lib.ListN.{length, drop}
 use Rattle.theory.specs.Sums.{pick}
 
 module _ {A : Type 0} where
@@ -41,3 +42,7 @@ tabulate (suc k) s f = f s ∷ tabulate k (suc s) f
 -- those numbers
 abbrev pub upTo : ℕ → ℕ → List ℕ
 upTo k s = tabulate k s (λ i. i)
+
+-- the list ys with xs written at its front; what comes after keeps its old values
+abbrev pub over : List ℕ → List ℕ → List ℕ
+over xs ys = xs ++ drop (length xs) ys

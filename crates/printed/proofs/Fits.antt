@@ -1,0 +1,155 @@
+-- Every number of a sale's answer has at most six digits (`prints-fit`), and a record of 59,994 bytes is long enough for every sale (`never-nine`). Assumes
+-- nothing.
+use mathlib.Core.Path.{_≡_, refl, ap, _∙_}
+use mathlib.Core.Logic.{_≢_, inl, inr}
+use mathlib.Core.List.{List}
+use Prim.Native.Nat.{ℕ, suc, _+_, _-_, _*_, _^_, _≤_, _<_}
+use native.Mathlib.Nat.{zero-add, mul-le-mul}
+use native.Mathlib.Omega.{arith}
+use native.Mathlib.Decide.{decLt, decLe, ℕ-discrete}
+use lib.Dec.{leb}
+use lib.ListN.{length, getD, List·getD-eq-default}
+use borrow.Author.Tests.{lt-ltb, le-ltb, le-leb, eqb-true, eqb-false}
+use Rattle.theory.specs.Sums.{Among}
+use Rattle.theory.specs.Lists.{tabulate}
+use Rattle.theory.specs.Markets.{total}
+use Rattle.theory.proofs.Sums.{sum-mono, sum-const}
+use Rattle.theory.proofs.Tests.{by-test}
+use Rattle.theory.proofs.Lists.{most-bound, tabulate-at, tabulate-length, zeros-at}
+use Rattle.owners.specs.Owners.{zeroFirst}
+use Rattle.owners.proofs.Owners.{allocation-from}
+use Rattle.owners.proofs.Singles.{singles-below, worth-small, limit-small}
+use Rattle.numbers.proofs.Numbers.{pow-small}
+use Rattle.sheet.specs.Sheets.{Sheet, sheetOf}
+use Rattle.sheet.specs.declared.Fault.{Fault}
+use Rattle.sheet.specs.Questions.{accepts, sheetFault}
+use Rattle.sheet.proofs.Theorems.{refusal-range}
+use Rattle.sheet.proofs.Forms.{asked-first, asked-yes}
+use Rattle.totals.specs.Words.{allocations, market}
+use Rattle.totals.specs.Seats.{seat, seats}
+use Rattle.totals.proofs.Seats.{seats-at}
+use Rattle.sale.specs.declared.Sale.{Sale}
+use Rattle.sale.specs.Words.{priceAt, revenue}
+use Rattle.sale.specs.Rounds.{saleSets, lastPrices, discountFor, paymentFor, roundLimit}
+use Rattle.sale.specs.Answers.{saleFault, refusedSale, settledSale, SaleSays}
+use Rattle.sale.proofs.Instance.{shape}
+use Rattle.sale.proofs.Theorems as sales
+use Rattle.sale.proofs.Opening.{sale-open, sale-closed}
+use Rattle.demands.proofs.First.{demand-1}
+use Rattle.demands.proofs.Third.{demand-3}
+use Rattle.printed.specs.Printed.{Printable}
+
+-- six places, each below a bound
+seats-small : (c m : ℕ) (f : ℕ → ℕ) → 0 < c → ((k : ℕ) → k < m → f (suc k) < c) → (k : ℕ) → getD (seats m f) k 0 < c
+unfolding seats
+seats-small c m f some h k =
+    elim (decLt k 6) [
+      | no l ↦ rw (List·getD-eq-default (tabulate 6 0 (seat m f)) 0 {n = k} (omega (arith, tabulate-length 6 0 (seat m f)))) some
+      | yes l ↦
+          rw (tabulate-at 6 0 (seat m f) k 0 l, zero-add k)
+          (elim (decLt k m) [ yes g ↦ rw (lt-ltb k m g) (h k g) | no g ↦ rw (le-ltb k m (omega arith)) some ])
+    ]
+
+-- a settled sale
+module _ (b : List ℕ) (accepted : sheetFault b .number ≡ 0) where
+  abbrev w : Sheet
+  w = sheetOf b
+
+  abbrev ps : List ℕ
+  ps = lastPrices w
+
+  cheap : (i s : ℕ) → Among (w .buyers) 1 i → s < 2 ^ w .lots → priceAt w ps i s ≤ 9999
+  cheap i s r h =
+      let low = sales.price-bound b accepted (length (saleSets w)) (omega arith) i s r h in
+      let same = ap (λ x. priceAt w x i s) (sales.demand-2 b accepted .to-last) in
+      omega (arith, low, same, worth-small (w .worths) 9999 i s (shape b accepted .small))
+
+  revenue-small : revenue w ps 0 ≤ 59994
+  revenue-small =
+      most-bound (total (market w) (priceAt w ps)) 59994 (allocations w)
+      (λ a m. omega (
+        arith,
+        sum-const (w .buyers) 1 9999,
+        shape b accepted .few-buyers,
+        sum-mono (w .buyers) 1 (λ i. priceAt w ps i (market w .holds a i)) (λ _. 9999)
+            (λ i r. cheap i (market w .holds a i) r (singles-below (w .lots) i a (allocation-from (zeroFirst (w .buyers)) (w .lots) m .0))),
+      ))
+
+  discount-small : (k : ℕ) → k < w .buyers → discountFor w ps (suc k) < 1000000
+  discount-small k h = omega (arith, sales.exact-discount b accepted ps (suc k) (omega arith), revenue-small)
+
+  rounds-small : length (saleSets w) < 1000000
+  rounds-small =
+      omega (arith, sales.demand-2 b accepted .few-rounds, limit-small (w .buyers) (w .lots) (shape b accepted .few-buyers) (w .worths) (shape b accepted .small))
+
+  payment-small : (o o′ : List ℕ) (r : Sale) → SaleSays b o o′ r → r .number ≡ 0 → r ≡ settledSale w → (k : ℕ) → k < w .buyers → paymentFor w ps (suc k) < 1000000
+  unfolding settledSale
+  payment-small o o′ r says z e k h =
+      let j : suc k - 1 ≡ k = omega arith in
+      let low = demand-3 .payment-bound b o o′ r says z (suc k) (omega arith) .1 in
+      let same = ap (λ i. getD (r .payments) i 0) j ∙ ap (λ (s : Sale). getD (s .payments) k 0) e ∙ seats-at (w .buyers) (paymentFor w ps) k (shape b accepted .few-buyers) h in
+      omega (arith, low, same)
+
+settled-fits : (b o o′ : List ℕ) (r : Sale) → SaleSays b o o′ r → r .number ≡ 0 → Printable r
+unfolding settledSale
+settled-fits b o o′ r says z =
+    let open′ = sale-open b o o′ r says z in
+    let e = open′ .answer in
+    let yes′ = open′ .accepted in
+    let w = sheetOf b in
+    record {
+      number = omega arith;
+      place = omega (arith, ap (λ (s : Sale). s .place) e);
+      buyers = omega (arith, ap (λ (s : Sale). s .buyers) e, shape b yes′ .few-buyers);
+      lots = omega (arith, ap (λ (s : Sale). s .lots) e, shape b yes′ .few-lots);
+      rounds = omega (arith, ap (λ (s : Sale). s .rounds) e, rounds-small b yes′);
+      discounts = λ k. rw e (seats-small 1000000 (w .buyers) (discountFor w (lastPrices w)) (omega arith) (discount-small b yes′) k);
+      payments = λ k. rw e (seats-small 1000000 (w .buyers) (paymentFor w (lastPrices w)) (omega arith) (payment-small b yes′ o o′ r says z e) k);
+    }
+
+-- a refused sale's place lies in a sheet of at most 559 bytes
+refused-fits : (b o o′ : List ℕ) (r : Sale) → SaleSays b o o′ r → r .number ≢ 0 → Printable r
+unfolding refusedSale
+refused-fits b o o′ r says n =
+    let e = sale-closed b o o′ r says n .0 in
+    let told = demand-1 .sells b o o′ r says in
+    record {
+      number = elim (told .range) [ inl l ↦ omega arith | inr l ↦ omega (arith, l .0) ];
+      place =
+          elim (decLe 6 (r .number)) [
+            | no l ↦ omega (arith, told .no-place (inl (omega arith)))
+            | yes l ↦
+                elim (decLe (r .number) 8) [
+                  | no g ↦ omega (arith, told .no-place (inr (omega arith)))
+                  | yes g ↦
+                      let yes-to = told .first-no (r .number) (omega arith) g .0 refl .0 in
+                      let (some, few) = yes-to 3 (omega arith) in
+                      let (some′, short) = yes-to 4 (omega arith) in
+                      let wide : 6 * (2 ^ sheetOf b .lots - 1) + 1 ≤ 91 = omega (arith, pow-small (sheetOf b .lots) short) in
+                      omega (arith, told .a-place l g .1, yes-to 5 (omega arith), mul-le-mul few wide)
+                ]
+          ];
+      buyers = omega (arith, ap (λ (s : Sale). s .buyers) e);
+      lots = omega (arith, ap (λ (s : Sale). s .lots) e);
+      rounds = omega (arith, ap (λ (s : Sale). s .rounds) e);
+      discounts = λ k. omega (arith, ap (λ (s : Sale). getD (s .discounts) k 0) e, zeros-at 6 k);
+      payments = λ k. omega (arith, ap (λ (s : Sale). getD (s .payments) k 0) e, zeros-at 6 k);
+    }
+
+pub prints-fit : (b o o′ : List ℕ) (r : Sale) → SaleSays b o o′ r → Printable r
+prints-fit b o o′ r says = elim (ℕ-discrete (r .number) 0) [ yes z ↦ settled-fits b o o′ r says z | no n ↦ refused-fits b o o′ r says n ]
+
+-- with room for 59,994 rounds no sale is refused by question 9
+pub never-nine : (b : List ℕ) → saleFault b 59994 .number ≢ 9
+never-nine b e =
+    let f = sheetFault b in
+    let x = leb (roundLimit (sheetOf b)) 59994 in
+    by-test (accepts f)
+    (λ t.
+    let z = eqb-true (f .number) 0 t in
+    let low = limit-small (sheetOf b .buyers) (sheetOf b .lots) (shape b z .few-buyers) (sheetOf b .worths) (shape b z .small) in
+    let none = ap (λ (g : Fault). g .number) (asked-yes 9 x f z (le-leb (roundLimit (sheetOf b)) 59994 low)) in
+    omega arith)
+    (λ t.
+    let same = ap (λ (g : Fault). g .number) (asked-first 9 x f (eqb-false (f .number) 0 t)) in
+    omega (arith, refusal-range b))

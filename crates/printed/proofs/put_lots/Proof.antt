@@ -1,0 +1,115 @@
+-- `printed::put_lots` meets its contract. The invariant: the lines of the first j lots are printed.
+use mathlib.Core.List.{List, [], _∷_}
+use mathlib.Core.Path.{_≡_, refl, ap, _∙_}
+use Prim.Native.Nat.{ℕ, _+_, _-_, _≤_}
+use native.Mathlib.Omega.{arith}
+use lib.ListN.{length, length-take, length-drop}
+use Rattle.theory.specs.Lists.{tabulate, over}
+use Rattle.fields.specs.Fields.{lineOf, linesOf}
+use Rattle.printing.proofs.Lines.{line-length, lines-long, lines-more}
+use Rattle.printed.specs.Printed.{lotLine}
+use Rattle.printed.proofs.Fours.{four-small}
+use Rattle.printed.proofs.put_lots.Statement.{statement}
+use Rattle.printed.proofs.put_lots.Tie as tie
+
+abbrev Inv-loop : tie.InvT-loop
+Inv-loop out₀ lots owners j₀ out j = (j ≤ lots) × (out ≡ over (linesOf (tabulate j 0 (lotLine owners))) out₀)
+
+abbrev μ-loop : tie.MeasureT-loop
+μ-loop out₀ lots owners j₀ out j = lots - j
+
+wide : (owners : List ℕ) (j : ℕ) → length (lineOf (lotLine owners j)) ≡ 13
+wide owners j = line-length (lotLine owners j)
+
+long : (a : tie.At-loop Inv-loop μ-loop) → length (a .loop .out) ≡ length (a .before .before .args .out .now)
+long a =
+    let s = a .before .before in
+    lines-long (lotLine (s .args .t2)) 13 (wide (s .args .t2)) (s .args .out .now) (a .loop .j) (a .loop .out) (a .loop .inv .1) (omega (arith, s .pre .1, a .loop .inv .0))
+
+loop-holds : tie.Need-loop-holds Inv-loop μ-loop
+loop-holds c = (omega arith, refl)
+
+mul-at : tie.Need-mul-at Inv-loop μ-loop
+mul-at c = omega arith
+
+add-lot : tie.Need-add-lot Inv-loop μ-loop
+add-lot c = omega arith
+
+cast-lot : tie.Need-cast-lot Inv-loop μ-loop
+cast-lot c = omega arith
+
+array-read-number : tie.Need-array-read-number Inv-loop μ-loop
+array-read-number c = omega arith
+
+number-requires : tie.Need-number-requires Inv-loop μ-loop
+number-requires c κs = tt
+
+sub-put-line : tie.Need-sub-put-line Inv-loop μ-loop
+sub-put-line c = let a = c .before .before in omega (arith, long a, a .before .before .pre .1, c .before .loop-test .taken)
+
+part-put-line-start : tie.Need-part-put-line-start Inv-loop μ-loop
+part-put-line-start c = let a = c .before .before in omega (arith, long a, a .before .before .pre .1, c .before .loop-test .taken)
+
+part-put-line-end : tie.Need-part-put-line-end Inv-loop μ-loop
+part-put-line-end c = omega arith
+
+put-line-requires : tie.Need-put-line-requires Inv-loop μ-loop
+put-line-requires c κs =
+    let o = c .before .number in
+    let a = c .before .before .before in
+    let s = a .before .before in
+    let more = c .before .before .loop-test .taken in (
+      omega arith,
+      simp (length-take, length-drop) (omega (arith, long a, s .pre .1)),
+      four-small 1000000 _ _ 0 0 (omega (arith, s .pre .0)) (omega (arith, o .ensures .most)) (omega arith) (omega arith),
+    )
+
+add-j : tie.Need-add-j Inv-loop μ-loop
+add-j c = omega arith
+
+loop-less : tie.Need-loop-less Inv-loop μ-loop
+loop-less c = omega arith
+
+loop-again : tie.Need-loop-again Inv-loop μ-loop
+loop-again c =
+    let put = c .before .before in
+    let o = put .before .before in
+    let a = o .before .before in
+    let s = a .before .before in
+    let more = o .before .loop-test .taken in (
+      omega arith,
+      lines-more (lotLine (s .args .t2)) 13 (wide (s .args .t2)) (s .args .out .now) (a .loop .j) (a .loop .out) (a .loop .inv .1) (omega (arith, s .pre .1))
+          _ refl _ _ (ap (λ x. (a .loop .j + 1) ∷ x ∷ []) (o .number .ensures .is)) (put .put-line .ensures),
+    )
+
+same-length : tie.Need-same-length Inv-loop μ-loop
+same-length c = long (c .before)
+
+returns : tie.Need-returns Inv-loop μ-loop
+returns c =
+    let a = c .before in
+    let s = a .before .before in
+    let e : a .loop .j ≡ s .args .lots = omega (arith, a .loop .inv .0, c .loop-test .left) in
+    a .loop .inv .1 ∙ ap (λ j. over (linesOf (tabulate j 0 (lotLine (s .args .t2)))) (s .args .out .now)) e
+
+pub put-lots-spec : {M : Type 1} → statement M
+put-lots-spec =
+    tie.close
+    (tie.spec
+    Inv-loop
+    μ-loop
+    loop-holds
+    mul-at
+    add-lot
+    cast-lot
+    array-read-number
+    number-requires
+    sub-put-line
+    part-put-line-start
+    part-put-line-end
+    put-line-requires
+    add-j
+    loop-less
+    loop-again
+    same-length
+    returns)

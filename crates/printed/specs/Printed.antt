@@ -1,0 +1,55 @@
+-- "The printed sale": the bytes that are printed of a sale's answer (`printed`).
+use mathlib.Core.Path.{_≡_}
+use mathlib.Core.List.{List, [], _∷_, _++_}
+use Prim.Native.Nat.{ℕ, _+_, _≤_, _<_}
+use lib.Dec.{eqb}
+use lib.ListN.{length, take, getD}
+use Rattle.theory.specs.Sums.{pick}
+use Rattle.theory.specs.Lists.{tabulate, over}
+use Rattle.fields.specs.Fields.{lineOf, linesOf}
+use Rattle.owners.specs.Owners.{bundleFrom, single}
+use Rattle.owners.specs.Prices.{plain, price}
+use Rattle.sale.specs.declared.Sale.{Sale}
+use Rattle.sale.specs.Answers.{saleAnswer, saleRecord}
+
+-- "a line per lot of lot and owner"; lots are counted from 0 here
+abbrev pub lotLine : List ℕ → ℕ → List ℕ
+lotLine owners j = (j + 1) ∷ getD owners j 0 ∷ []
+
+-- "a line per buyer of buyer, price of its bundle, discount, payment"
+abbrev pub buyerLine : ℕ → List ℕ → List ℕ → List ℕ → List ℕ → ℕ → List ℕ
+buyerLine lots owners prices discounts payments i =
+    (i + 1) ∷ price (plain 6) prices (i + 1) (bundleFrom single 0 (i + 1) (take lots owners)) ∷ getD discounts i 0 ∷ getD payments i 0 ∷ []
+
+-- "Settled: first a line of 0, buyers, lots, rounds"
+abbrev pub settledBy : ℕ → ℕ → ℕ → List ℕ → List ℕ → List ℕ → List ℕ → List (List ℕ)
+settledBy buyers lots rounds prices owners discounts payments =
+    (0 ∷ buyers ∷ lots ∷ rounds ∷ [])
+    ∷ (tabulate lots 0 (lotLine owners) ++ tabulate buyers 0 (buyerLine lots owners prices discounts payments))
+
+-- "Refused: one line of number and place"
+abbrev pub printed : Sale → List ℕ
+printed r =
+    pick (eqb (r .number) 0)
+    (linesOf (settledBy (r .buyers) (r .lots) (r .rounds) (r .prices) (r .owners) (r .discounts) (r .payments)))
+    (lineOf (r .number ∷ r .place ∷ []))
+
+-- a text put at the front of a buffer o: its length is answered; or 0, where it has no room, and the buffer keeps its bytes
+pub record Puts (text o o′ : List ℕ) (r : ℕ) : Type 0 where
+  pub whole : length text ≤ length o → (r ≡ length text) × (o′ ≡ over text o)
+  pub none : length o < length text → (r ≡ 0) × (o′ ≡ o)
+
+-- an answer whose numbers all fit six columns, of at most six buyers and four lots
+pub record Printable (r : Sale) : Type 0 where
+  pub number : r .number < 1000000
+  pub place : r .place < 1000000
+  pub buyers : r .buyers ≤ 6
+  pub lots : r .lots ≤ 4
+  pub rounds : r .rounds < 1000000
+  pub discounts : (k : ℕ) → getD (r .discounts) k 0 < 1000000
+  pub payments : (k : ℕ) → getD (r .payments) k 0 < 1000000
+
+-- the record and the buffer after a printed sale; t is the buffer before
+pub record PrintSays (b o o′ t t′ : List ℕ) (r : ℕ) : Type 0 where
+  pub bytes : o′ ≡ saleRecord b o
+  pub prints : Puts (printed (saleAnswer b (length o))) t t′ r

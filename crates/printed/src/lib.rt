@@ -1,0 +1,120 @@
+// A sale printed in lines of fields.
+ghost use mathlib.Core.Path.{_≡_};
+ghost use mathlib.Core.List.{[], _∷_};
+ghost use Prim.Native.Nat.{ℕ, _*_, _≤_, _<_};
+ghost use lib.ListN.{length, getD};
+ghost use Rattle.theory.specs.Lists.{tabulate, over};
+ghost use Rattle.numbers.specs.Numbers.{Is};
+ghost use Rattle.fields.specs.Fields.{lineOf, linesOf};
+ghost use Rattle.printed.specs.Printed.{lotLine, buyerLine, settledBy, Puts, PrintSays};
+use printing::put_line;
+
+// An owner as a wider number.
+fn number(x: u8) -> u32
+    ensures { λ r. ⌜ Is x r 255 ⌝ }
+{
+    x as u32
+}
+
+// The lines of the lots, at the front of a buffer.
+fn put_lots(out: &mut [u8], owners: [u8; 4], lots: usize)
+    requires { ⌜ (lots ≤ 4) × (13 * lots ≤ length (now out)) ⌝ }
+    ensures { λ _. ⌜ now (out .exit) ≡ over (linesOf (tabulate lots 0 (lotLine owners))) (now (out .entry)) ⌝ }
+{
+    let mut j: usize = 0;
+    while j < lots {
+        let at = 13 * j;
+        let lot = (j + 1) as u32;
+        let owner = number(owners[j]);
+        put_line(&mut out[at..], [lot, owner, 0, 0], 2);
+        j += 1;
+    }
+}
+
+// The lines of the buyers, at the front of a buffer.
+fn put_buyers(
+    out: &mut [u8],
+    prices: &[u16; 96],
+    owners: [u8; 4],
+    discounts: [u32; 6],
+    payments: [u32; 6],
+    buyers: usize,
+    lots: usize,
+)
+    requires { ⌜ (buyers ≤ 6) × (lots ≤ 4) × (25 * buyers ≤ length (now out)) × ((k : ℕ) → getD discounts k 0 < 1000000) × ((k : ℕ) → getD payments k 0 < 1000000) ⌝ }
+    ensures { λ _. ⌜ now (out .exit) ≡ over (linesOf (tabulate buyers 0 (buyerLine lots owners (now (prices .entry)) discounts payments))) (now (out .entry)) ⌝ }
+{
+    let mut i: usize = 0;
+    while i < buyers {
+        let at = 25 * i;
+        let s = totals::bundle_of(owners, lots, i + 1);
+        let p = demand::price_of(prices, i + 1, s);
+        let buyer = (i + 1) as u32;
+        let d = discounts[i];
+        let due = payments[i];
+        put_line(&mut out[at..], [buyer, p, d, due], 4);
+        i += 1;
+    }
+}
+
+// Prints a refusal: the length of what is printed, or 0 where it has no room.
+fn put_refusal(out: &mut [u8], number: u32, place: u32) -> usize
+    requires { ⌜ (number < 1000000) × (place < 1000000) ⌝ }
+    ensures { λ r. ⌜ Puts (lineOf (number ∷ place ∷ [])) (now (out .entry)) (now (out .exit)) r ⌝ }
+{
+    if out.len() < 13 {
+        return 0;
+    }
+    put_line(out, [number, place, 0, 0], 2);
+    13
+}
+
+// Prints a settled sale, in the same way.
+fn put_settled(
+    out: &mut [u8],
+    prices: &[u16; 96],
+    owners: [u8; 4],
+    discounts: [u32; 6],
+    payments: [u32; 6],
+    buyers: usize,
+    lots: usize,
+    rounds: u32,
+) -> usize
+    requires { ⌜ (buyers ≤ 6) × (lots ≤ 4) × (rounds < 1000000) × ((k : ℕ) → getD discounts k 0 < 1000000) × ((k : ℕ) → getD payments k 0 < 1000000) ⌝ }
+    ensures { λ r. ⌜ Puts (linesOf (settledBy buyers lots rounds (now (prices .entry)) owners discounts payments)) (now (out .entry)) (now (out .exit)) r ⌝ }
+{
+    let at = 25 + 13 * lots;
+    let end = at + 25 * buyers;
+    if out.len() < end {
+        return 0;
+    }
+    put_line(out, [0, buyers as u32, lots as u32, rounds], 4);
+    put_lots(&mut out[25..], owners, lots);
+    put_buyers(
+        &mut out[at..],
+        prices,
+        owners,
+        discounts,
+        payments,
+        buyers,
+        lots,
+    );
+    end
+}
+
+// Runs the sale of a sheet, with a record as `run_sale` has it, and prints its answer: the length of what is printed, or 0 where it has no room.
+pub fn print_sale(sheet: &[u8], log: &mut [u8], out: &mut [u8]) -> usize
+    ensures { λ r. ⌜ PrintSays (now (sheet .entry)) (now (log .entry)) (now (log .exit)) (now (out .entry)) (now (out .exit)) r ⌝ }
+{
+    let r = selling::run_sale(sheet, log);
+    if r.number != 0 {
+        return put_refusal(out, r.number as u32, r.place);
+    }
+    let prices = r.prices;
+    let owners = r.owners;
+    let discounts = r.discounts;
+    let payments = r.payments;
+    let m = r.buyers as usize;
+    let n = r.lots as usize;
+    put_settled(out, &prices, owners, discounts, payments, m, n, r.rounds)
+}
