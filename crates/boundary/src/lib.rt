@@ -3,6 +3,7 @@ ghost use mathlib.Core.Path.{_≡_};
 ghost use Rattle.sheet.specs.Answers.{sheetRead, worthsRead};
 ghost use Rattle.sale.specs.Answers.{demandAnswer, SaleSays};
 ghost use Rattle.direct.specs.Answers.{directAnswer};
+ghost use Rattle.printed.specs.Printed.{PrintSays};
 ghost use Rattle.boundary.specs.Boundary.{fieldAnswer};
 use direct::Direct;
 use fields::Field;
@@ -73,4 +74,12 @@ pub extern "C" fn hokewhuni_direct_way(sheet: &[u8]) -> Direct
     ensures { λ r. ⌜ r ≡ directAnswer (now (sheet .entry)) ⌝ }
 {
     direct::direct_way(sheet)
+}
+
+// The length of the printed sale in `out`, or 0 where it has no room.
+#[no_mangle]
+pub extern "C" fn hokewhuni_print_sale(sheet: &[u8], log: &mut [u8], out: &mut [u8]) -> usize
+    ensures { λ r. ⌜ PrintSays (now (sheet .entry)) (now (log .entry)) (now (log .exit)) (now (out .entry)) (now (out .exit)) r ⌝ }
+{
+    printed::print_sale(sheet, log, out)
 }

@@ -1,7 +1,8 @@
--- Every number of a sale's answer has at most six digits (`prints-fit`), and a record of 59,994 bytes is long enough for every sale (`never-nine`). Assumes
--- nothing.
+-- Every number of a sale's answer has at most six digits (`prints-fit`), and a record of 59,994 bytes is long enough for every sale (`sale-asked`,
+-- `never-nine`). Assumes nothing.
 use mathlib.Core.Path.{_≡_, refl, ap, _∙_}
 use mathlib.Core.Logic.{_≢_, inl, inr}
+use mathlib.Core.Bool.{Bool}
 use mathlib.Core.List.{List}
 use Prim.Native.Nat.{ℕ, suc, _+_, _-_, _*_, _^_, _≤_, _<_}
 use native.Mathlib.Nat.{zero-add, mul-le-mul}
@@ -9,12 +10,11 @@ use native.Mathlib.Omega.{arith}
 use native.Mathlib.Decide.{decLt, decLe, ℕ-discrete}
 use lib.Dec.{leb}
 use lib.ListN.{length, getD, List·getD-eq-default}
-use borrow.Author.Tests.{lt-ltb, le-ltb, le-leb, eqb-true, eqb-false}
+use borrow.Author.Tests.{lt-ltb, le-ltb, le-leb}
 use Rattle.theory.specs.Sums.{Among}
 use Rattle.theory.specs.Lists.{tabulate}
 use Rattle.theory.specs.Markets.{total}
 use Rattle.theory.proofs.Sums.{sum-mono, sum-const}
-use Rattle.theory.proofs.Tests.{by-test}
 use Rattle.theory.proofs.Lists.{most-bound, tabulate-at, tabulate-length, zeros-at}
 use Rattle.owners.specs.Owners.{zeroFirst}
 use Rattle.owners.proofs.Owners.{allocation-from}
@@ -22,7 +22,7 @@ use Rattle.owners.proofs.Singles.{singles-below, worth-small, limit-small}
 use Rattle.numbers.proofs.Numbers.{pow-small}
 use Rattle.sheet.specs.Sheets.{Sheet, sheetOf}
 use Rattle.sheet.specs.declared.Fault.{Fault}
-use Rattle.sheet.specs.Questions.{accepts, sheetFault}
+use Rattle.sheet.specs.Questions.{fault, sheetFault}
 use Rattle.sheet.proofs.Theorems.{refusal-range}
 use Rattle.sheet.proofs.Forms.{asked-first, asked-yes}
 use Rattle.totals.specs.Words.{allocations, market}
@@ -139,17 +139,22 @@ refused-fits b o o′ r says n =
 pub prints-fit : (b o o′ : List ℕ) (r : Sale) → SaleSays b o o′ r → Printable r
 prints-fit b o o′ r says = elim (ℕ-discrete (r .number) 0) [ yes z ↦ settled-fits b o o′ r says z | no n ↦ refused-fits b o o′ r says n ]
 
--- with room for 59,994 rounds no sale is refused by question 9
-pub never-nine : (b : List ℕ) → saleFault b 59994 .number ≢ 9
-never-nine b e =
-    let f = sheetFault b in
-    let x = leb (roundLimit (sheetOf b)) 59994 in
-    by-test (accepts f)
-    (λ t.
-    let z = eqb-true (f .number) 0 t in
-    let low = limit-small (sheetOf b .buyers) (sheetOf b .lots) (shape b z .few-buyers) (sheetOf b .worths) (shape b z .small) in
-    let none = ap (λ (g : Fault). g .number) (asked-yes 9 x f z (le-leb (roundLimit (sheetOf b)) 59994 low)) in
-    omega arith)
-    (λ t.
-    let same = ap (λ (g : Fault). g .number) (asked-first 9 x f (eqb-false (f .number) 0 t)) in
-    omega (arith, refusal-range b))
+-- with room for 59,994 rounds question 9 is answered yes
+module _ (b : List ℕ) (room : ℕ) (long : 59994 ≤ room) where
+  abbrev x : Bool
+  x = leb (roundLimit (sheetOf b)) room
+
+  pub sale-asked : sheetFault b .number ≡ 0 → saleFault b room ≡ fault 0 0
+  sale-asked z =
+      let low = limit-small (sheetOf b .buyers) (sheetOf b .lots) (shape b z .few-buyers) (sheetOf b .worths) (shape b z .small) in
+      asked-yes 9 x (sheetFault b) z (le-leb (roundLimit (sheetOf b)) room (omega arith))
+
+  pub sale-first : sheetFault b .number ≢ 0 → saleFault b room ≡ sheetFault b
+  sale-first n = asked-first 9 x (sheetFault b) n
+
+  pub never-nine : saleFault b room .number ≢ 9
+  never-nine e =
+      elim (ℕ-discrete (sheetFault b .number) 0) [
+        | yes z ↦ omega (arith, ap (λ (g : Fault). g .number) (sale-asked z))
+        | no n ↦ omega (arith, ap (λ (g : Fault). g .number) (sale-first n), refusal-range b)
+      ]

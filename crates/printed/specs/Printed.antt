@@ -1,16 +1,20 @@
--- "The printed sale": the bytes that are printed of a sale's answer (`printed`).
+-- "The printed sale": the bytes that are printed of a sale's answer (`printed`), and of a sheet (`printedSale`).
 use mathlib.Core.Path.{_≡_}
+use mathlib.Core.Logic.{_≢_}
 use mathlib.Core.List.{List, [], _∷_, _++_}
 use Prim.Native.Nat.{ℕ, _+_, _≤_, _<_}
 use lib.Dec.{eqb}
-use lib.ListN.{length, take, getD}
+use lib.ListN.{length, take, getD, replicate}
 use Rattle.theory.specs.Sums.{pick}
 use Rattle.theory.specs.Lists.{tabulate, over}
 use Rattle.fields.specs.Fields.{lineOf, linesOf}
 use Rattle.owners.specs.Owners.{bundleFrom, single}
 use Rattle.owners.specs.Prices.{plain, price}
 use Rattle.sale.specs.declared.Sale.{Sale}
-use Rattle.sale.specs.Answers.{saleAnswer, saleRecord}
+use Rattle.sheet.specs.Sheets.{sheetOf}
+use Rattle.sheet.specs.Questions.{accepts, onward, sheetFault}
+use Rattle.sale.specs.Answers.{saleFault, settledSale, saleAnswer, saleRecord, SaleSays}
+use Rattle.printed.specs.declared.Text.{Text}
 
 -- "a line per lot of lot and owner"; lots are counted from 0 here
 abbrev pub lotLine : List ℕ → ℕ → List ℕ
@@ -27,12 +31,19 @@ settledBy buyers lots rounds prices owners discounts payments =
     (0 ∷ buyers ∷ lots ∷ rounds ∷ [])
     ∷ (tabulate lots 0 (lotLine owners) ++ tabulate buyers 0 (buyerLine lots owners prices discounts payments))
 
+abbrev pub settledText : Sale → List ℕ
+settledText r = linesOf (settledBy (r .buyers) (r .lots) (r .rounds) (r .prices) (r .owners) (r .discounts) (r .payments))
+
 -- "Refused: one line of number and place"
+abbrev pub refusedText : ℕ → ℕ → List ℕ
+refusedText number place = lineOf (number ∷ place ∷ [])
+
 abbrev pub printed : Sale → List ℕ
-printed r =
-    pick (eqb (r .number) 0)
-    (linesOf (settledBy (r .buyers) (r .lots) (r .rounds) (r .prices) (r .owners) (r .discounts) (r .payments)))
-    (lineOf (r .number ∷ r .place ∷ []))
+printed r = pick (eqb (r .number) 0) (settledText r) (refusedText (r .number) (r .place))
+
+-- what is printed of a sheet whose sale has all the record that it needs: refused by questions 1 to 8 alone
+unfoldable pub printedSale : List ℕ → List ℕ
+printedSale b = let f = sheetFault b in onward (accepts f) (λ _. settledText (settledSale (sheetOf b))) (refusedText (f .number) (f .place))
 
 -- a text put at the front of a buffer o: its length is answered; or 0, where it has no room, and the buffer keeps its bytes
 pub record Puts (text o o′ : List ℕ) (r : ℕ) : Type 0 where
@@ -53,3 +64,19 @@ pub record Printable (r : Sale) : Type 0 where
 pub record PrintSays (b o o′ t t′ : List ℕ) (r : ℕ) : Type 0 where
   pub bytes : o′ ≡ saleRecord b o
   pub prints : Puts (printed (saleAnswer b (length o))) t t′ r
+
+-- a sheet's text at the front of 227 bytes, of which the others are 0
+abbrev pub textOf : List ℕ → Text
+textOf b = record { bytes = over (printedSale b) (replicate 227 0); length = length (printedSale b) }
+
+-- what is claimed of printing, whatever the bytes
+pub record Prints : Type 0 where
+  -- every printed number has at most six digits
+  pub prints-fit : (b o o′ : List ℕ) (r : Sale) → SaleSays b o o′ r → Printable r
+  -- question 9's sum is at most 59,994, so that a record of that length is never refused
+  pub never-nine : (b : List ℕ) (room : ℕ) → 59994 ≤ room → saleFault b room .number ≢ 9
+  -- what is printed is then the same whatever the record
+  pub any-record : (b : List ℕ) (room : ℕ) → 59994 ≤ room → printed (saleAnswer b room) ≡ printedSale b
+  pub longest : (b : List ℕ) → length (printedSale b) ≤ 227
+  -- a sheet is told by its first 560 bytes: what comes after them makes no difference
+  pub cut : (b : List ℕ) → printedSale (take 560 b) ≡ printedSale b

@@ -6,8 +6,14 @@ ghost use lib.ListN.{length, getD};
 ghost use Rattle.theory.specs.Lists.{tabulate, over};
 ghost use Rattle.numbers.specs.Numbers.{Is};
 ghost use Rattle.fields.specs.Fields.{lineOf, linesOf};
-ghost use Rattle.printed.specs.Printed.{lotLine, buyerLine, settledBy, Puts, PrintSays};
+ghost use Rattle.printed.specs.Printed.{lotLine, buyerLine, settledBy, Puts, PrintSays, textOf, Prints};
 use printing::put_line;
+
+// A printed sale, which has at most 227 bytes.
+pub struct Text {
+    pub bytes: [u8; 227],
+    pub length: usize,
+}
 
 // An owner as a wider number.
 fn number(x: u8) -> u32
@@ -118,3 +124,18 @@ pub fn print_sale(sheet: &[u8], log: &mut [u8], out: &mut [u8]) -> usize
     let n = r.lots as usize;
     put_settled(out, &prices, owners, discounts, payments, m, n, r.rounds)
 }
+
+// The printed sale of a sheet, with a record of its own that every sale has room in.
+pub fn sale_text(sheet: &[u8]) -> Text
+    ensures { λ r. ⌜ r ≡ textOf (now (sheet .entry)) ⌝ }
+{
+    let mut log = [0u8; 59994];
+    let mut bytes = [0u8; 227];
+    let length = print_sale(sheet, &mut log, &mut bytes);
+    Text { bytes, length }
+}
+
+// Does nothing. Its contract has the theorems about printing, so that none can be dropped unseen.
+pub fn prints_hold()
+    ensures { λ _. ⌜ Prints ⌝ }
+{}

@@ -8,16 +8,16 @@ use sale::Sale;
 pub fn buyer_demand(sheet: &[u8], buyer: u32, prices: [u16; 96]) -> Demand
     ensures { λ r. ⌜ r ≡ demandAnswer (now (sheet .entry)) buyer prices ⌝ }
 {
-    let read = reading::read_worths(sheet);
-    if read.number != 0 {
-        return sale::refused_demand(read.number, read.place);
+    let told = reading::read_worths(sheet);
+    if told.number != 0 {
+        return sale::refused_demand(told.number, told.place);
     }
     let i = buyer as usize;
-    if !reading::is_between(read.buyers as usize, i) {
+    if !reading::is_between(told.buyers as usize, i) {
         return sale::refused_demand(10, 0);
     }
-    let worths = read.worths;
-    let n = read.lots as usize;
+    let worths = told.worths;
+    let n = told.lots as usize;
     Demand {
         number: 0,
         place: 0,

@@ -82,6 +82,9 @@ first-none (q ∷ qs) k n l f = elim f [
     all y h (suc i) = h i
 
 -- what the questions' tests mean
+pub between-means : (k m : ℕ) → Means (between k m) ((1 ≤ m) × (m ≤ k))
+between-means k m = and-means (leb-means 1 m) (leb-means m k)
+
 module _ (b : List ℕ) where
   abbrev w : Sheet
   w = sheetOf b
@@ -90,9 +93,6 @@ module _ (b : List ℕ) where
   head-means =
       means-via (and-means (good-means b 0) (and-means (good-means b 6) (eqb-means (getD b 12 0) 10)))
       (λ h. (h .0, h .1 .0, h .1 .1)) (λ h. (h .0, (h .1, h .2)))
-
-  between-means : (k m : ℕ) → Means (between k m) ((1 ≤ m) × (m ≤ k))
-  between-means k m = and-means (leb-means 1 m) (leb-means m k)
 
   abbrev from : ℕ → List (Type 0)
   from k = drop k (questions b w)

@@ -1,8 +1,9 @@
 -- The worths of a sheet (Places, Valued), what questions 6 to 8 find (Lines), the order of the questions (Faults), what is known of every sheet
--- (Theorems), and answers made of a fault (Forms).
+-- (Theorems), answers made of a fault (Forms), and sheets that are too long (Long).
 pub mod Places
 pub mod Lines
 pub mod Valued
 pub mod Faults
 pub mod Theorems
 pub mod Forms
+pub mod Long

@@ -1,2 +1,3 @@
--- The starred sales.
+-- The starred sales, and the printed example.
 pub mod Starred
+pub mod Example

@@ -1,0 +1,103 @@
+-- The text of a sheet: it is what is printed of its sale with any record that is long enough (`any-record`), it has at most 227 bytes (`longest`), and it
+-- depends on the first 560 bytes alone (`cut`). `text-told` and `text-within`
+-- are for the text as an answer. Assumes nothing.
+use mathlib.Core.Path.{_≡_, refl, sym, ap, ap₂, subst, _∙_}
+use mathlib.Core.Logic.{_≢_}
+use mathlib.Core.List.{List, [], _∷_}
+use Prim.Native.Nat.{ℕ, _≤_}
+use native.Mathlib.Omega.{arith}
+use native.Mathlib.Decide.{decLe, ℕ-discrete}
+use lib.ListN.{length, take, drop, replicate, take-append-drop}
+use lib.Seq.{take-all, length-take-le}
+use borrow.Author.Tests.{eq-eqb, ne-eqb}
+use Rattle.theory.specs.Sums.{pick}
+use Rattle.theory.specs.Lists.{over}
+use Rattle.theory.proofs.Over.{over-long}
+use Rattle.printing.proofs.Lines.{line-length}
+use Rattle.sheet.specs.Sheets.{Sheet, sheetOf}
+use Rattle.sheet.specs.Questions.{accepts, onward, sheetFault}
+use Rattle.sheet.specs.declared.Fault.{Fault}
+use Rattle.sheet.proofs.Long.{long-refused, long-alike}
+use Rattle.sale.specs.Answers.{settledSale, refusedSale, saleAnswer}
+use Rattle.sale.proofs.Instance.{shape}
+use Rattle.printed.specs.declared.Text.{Text}
+use Rattle.printed.specs.Printed.{printed, settledText, refusedText, printedSale, Puts, PrintSays, textOf, Prints}
+use Rattle.printed.proofs.Fits.{sale-asked, sale-first, prints-fit, never-nine}
+use Rattle.printed.proofs.Parts.{text-length}
+
+printed-settled : (w : Sheet) → printed (settledSale w) ≡ settledText (settledSale w)
+unfolding settledSale
+printed-settled w = refl
+
+printed-refused : (f : Fault) → f .number ≢ 0 → printed (refusedSale f) ≡ refusedText (f .number) (f .place)
+unfolding refusedSale
+printed-refused f n = ap (λ x. pick x (settledText (refusedSale f)) (refusedText (f .number) (f .place))) (ne-eqb (f .number) 0 n)
+
+module _ (b : List ℕ) where
+  settled : sheetFault b .number ≡ 0 → printedSale b ≡ settledText (settledSale (sheetOf b))
+  unfolding printedSale
+  settled z = rw (eq-eqb (sheetFault b .number) 0 z) refl
+
+  refused : sheetFault b .number ≢ 0 → printedSale b ≡ refusedText (sheetFault b .number) (sheetFault b .place)
+  unfolding printedSale
+  refused n = rw (ne-eqb (sheetFault b .number) 0 n) refl
+
+  pub any-record : (room : ℕ) → 59994 ≤ room → printed (saleAnswer b room) ≡ printedSale b
+  unfolding saleAnswer
+  any-record room long =
+      let f = sheetFault b in
+      let s = settledSale (sheetOf b) in
+      elim (ℕ-discrete (f .number) 0) [
+        | yes z ↦ ap (λ g. printed (onward (accepts g) (λ _. s) (refusedSale g))) (sale-asked b room long z) ∙ printed-settled (sheetOf b) ∙ sym (settled z)
+        | no n ↦
+            ap (λ g. printed (onward (accepts g) (λ _. s) (refusedSale g))) (sale-first b room long n)
+            ∙ ap (λ x. printed (onward x (λ _. s) (refusedSale f))) (ne-eqb (f .number) 0 n) ∙ printed-refused f n ∙ sym (refused n)
+      ]
+
+  pub longest : length (printedSale b) ≤ 227
+  unfolding settledSale
+  longest =
+      elim (ℕ-discrete (sheetFault b .number) 0) [
+        | yes z ↦
+            let s = settledSale (sheetOf b) in
+            omega (
+              arith,
+              ap length (settled z),
+              text-length (s .buyers) (s .lots) (s .rounds) (s .prices) (s .owners) (s .discounts) (s .payments),
+              shape b z .few-buyers,
+              shape b z .few-lots,
+            )
+        | no n ↦ omega (arith, ap length (refused n), line-length (sheetFault b .number ∷ sheetFault b .place ∷ []))
+      ]
+
+pub cut : (b : List ℕ) → printedSale (take 560 b) ≡ printedSale b
+cut b =
+    elim (decLe (length b) 560) [
+      | yes l ↦ ap printedSale (take-all 560 b l)
+      | no l ↦
+          let a = take 560 b in
+          let long : 560 ≤ length a = omega (arith, length-take-le 560 b (omega arith)) in
+          let same : sheetFault a ≡ sheetFault b = sym (long-alike a (drop 560 b) long) ∙ ap sheetFault (take-append-drop 560 b) in
+          refused a (long-refused a long) ∙ ap (λ (f : Fault). refusedText (f .number) (f .place)) same ∙ sym (refused b (long-refused b (omega arith)))
+    ]
+
+-- a sale that is printed over 227 zeros, with 59,994 bytes of record
+pub text-told : (b o o′ t t′ : List ℕ) (r : ℕ) → PrintSays b o o′ t t′ r → 59994 ≤ length o → length t ≡ 227 → t ≡ replicate 227 0 →
+    record { bytes = t′; length = r } ≡ textOf b
+text-told b o o′ t t′ r says long room zeros =
+    let whole = subst (λ x. Puts x t t′ r) (any-record b (length o) long) (says .prints) .whole (omega (arith, longest b)) in
+    ap₂ (λ x k. record { bytes = x; length = k }) (whole .1 ∙ ap (over (printedSale b)) zeros) (whole .0)
+
+-- its length lies within its bytes
+pub text-within : (b : List ℕ) (r : Text) → r ≡ textOf b → r .length ≤ length (r .bytes)
+text-within b r e =
+    omega (
+      arith,
+      longest b,
+      ap (λ (x : Text). x .length) e,
+      ap (λ (x : Text). length (x .bytes)) e,
+      over-long (printedSale b) (replicate 227 0) (omega (arith, longest b)),
+    )
+
+pub prints-all : Prints
+prints-all = record { prints-fit = prints-fit; never-nine = never-nine; any-record = any-record; longest = longest; cut = cut }

@@ -1,0 +1,16 @@
+-- Document 01's example is printed as document 01 has it (`example`), by computing. Assumes nothing.
+use mathlib.Core.Path.{refl}
+use Rattle.owners.specs.Singles as singles
+use Rattle.sheet.specs.Sheets.{worthsIn}
+use Rattle.sheet.specs.Questions.{sheetFault, linesFault, firstWrong}
+use Rattle.totals.specs.Seats.{seats}
+use Rattle.sale.specs.Rounds.{raised, saleSets, lastPrices, ownersBy, discountFor, paymentFor}
+use Rattle.sale.specs.Answers.{settledSale}
+use Rattle.printed.specs.Printed.{printedSale}
+use Rattle.starred.specs.Example.{Example}
+
+pub example : Example
+unfolding
+    worthsIn sheetFault linesFault firstWrong seats singles.startPrices singles.saleSets singles.salePrices raised saleSets lastPrices ownersBy discountFor paymentFor
+    settledSale printedSale
+example = refl
