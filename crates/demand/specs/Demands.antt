@@ -1,13 +1,11 @@
 -- Demand at any prices. Offers `quoted`, the answers of bidders with these worths; `demandSet`, a demand set as
 -- one number; and `SameDemand`, lists of prices at which a bidder demands the same. Lists have sixteen numbers to a buyer. How many buyers there are plays
 -- no part: `plain 6` seats each of them as `plain m` does.
-use mathlib.Core.Path.{_≡_}
 use mathlib.Core.List.{List}
-use Prim.Native.Nat.{ℕ, _^_, _<_}
+use Prim.Native.Nat.{ℕ, _^_}
 use Rattle.theory.specs.Sums.{when, sum}
-use Rattle.theory.specs.Markets.{Table}
 use Rattle.theory.specs.Auction.{Quote}
-use Rattle.owners.specs.Prices.{plain, best, quote}
+use Rattle.owners.specs.Prices.{plain, quote}
 use Rattle.owners.specs.Singles.{worth}
 
 -- for the bundles of n lots
@@ -17,10 +15,3 @@ quoted n ws ps = quote (plain 6) (2 ^ n) (worth ws) ps
 -- "the sum of 2^S over its bundles S"
 abbrev pub demandSet : ℕ → Quote → ℕ → ℕ
 demandSet n q i = sum (2 ^ n) 0 (λ s. when (q .wants i s) (2 ^ s))
-
--- at two lists of prices bidder i has the same greatest payoff and demands the same
-pub record SameDemand (n : ℕ) (v : Table) (ps ps′ : List ℕ) (i : ℕ) : Type 0 where
-  pub best : best (plain 6) (2 ^ n) v ps i ≡ best (plain 6) (2 ^ n) v ps′ i
-  pub wants : (s : ℕ) → s < 2 ^ n → quote (plain 6) (2 ^ n) v ps .wants i s ≡ quote (plain 6) (2 ^ n) v ps′ .wants i s
-  pub keen : quote (plain 6) (2 ^ n) v ps .keen i ≡ quote (plain 6) (2 ^ n) v ps′ .keen i
-  pub set : demandSet n (quote (plain 6) (2 ^ n) v ps) i ≡ demandSet n (quote (plain 6) (2 ^ n) v ps′) i

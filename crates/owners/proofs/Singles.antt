@@ -1,6 +1,6 @@
 -- Single lots of which some may stay unsold, at most four, among at most six buyers. They make a `Hall` (`singles`), for any order of the owners.
 -- So demands 2 and 3 hold of document 01's sale (`sale-second`, `sale-third`), ties go to the list that comes first (`sale-ties`), and no buyer
--- gains by other worths than its true ones (`sale-no-gain`, `direct-no-gain`). Assumes worths of which all lots together have the most.
+-- gains by other worths than its true ones (`direct-no-gain`). Assumes worths of which all lots together have the most.
 use mathlib.Core.Path.{_≡_, refl, ap, _∙_}
 use mathlib.Core.Logic.{_≢_, _⊎_}
 use mathlib.Core.List.{List, [], _∷_}
@@ -20,8 +20,8 @@ use Rattle.theory.proofs.Lists.{keep-from, upTo-in}
 use Rattle.theory.proofs.Settled.{direct-first}
 use Rattle.owners.specs.Owners.{allocations, ComesBefore, bundleFrom, lacks, market, single, auction, member, zeroFirst}
 use Rattle.owners.specs.Prices.{plain, zeros}
-use Rattle.owners.specs.Sales.{limit, Worths, owners, directOwners, payment, directPayment, Second, Third, Hall}
-use Rattle.owners.specs.Singles.{worth, AtMost, Topped, sale, saleSets, salePrices, saleChoice}
+use Rattle.owners.specs.Sales.{limit, Worths, directOwners, directPayment, Second, Third, Hall}
+use Rattle.owners.specs.Singles.{worth, AtMost, Topped, sale, salePrices, saleChoice}
 use Rattle.owners.proofs.Owners.{allocation-from, some-allocation}
 use Rattle.owners.proofs.Order.{allocations-ordered, first-ordered}
 use Rattle.owners.proofs.Bits.{seats-ranked, ranked-numbered, plain-seated}
@@ -132,10 +132,6 @@ module _ (m n : ℕ) (few : m ≤ 6) (short : n ≤ 4) where
       unfolding saleChoice salePrices
       sale-settled = sale-second .settles
 
-      pub sale-short : length (saleSets m n ws f) ≤ limit (sale m n) (plain m) (2 ^ n) (worth ws)
-      unfolding saleSets
-      sale-short = sale-second .few-rounds
-
   -- ws has buyer i's true worths, and us are others that differ at most in i's
   module _
       (ws us : List ℕ) (topped : Topped m n ws) (topped′ : Topped m n us) (i : ℕ) (r : Among m 1 i)
@@ -148,14 +144,3 @@ module _ (m n : ℕ) (few : m ≤ 6) (short : n ≤ 4) where
     direct-no-gain =
         sales.no-gain-direct (sale m n) (plain m) (2 ^ n) m lists sale-hall (worth ws) (worth us)
         (sale-worths ws topped) (sale-worths us topped′) i (but i) (sale-buyer i r) [] others
-
-    pub sale-no-gain : (f g : ℕ) → limit (sale m n) (plain m) (2 ^ n) (worth ws) ≤ f → limit (sale m n) (plain m) (2 ^ n) (worth us) ≤ g →
-        worth ws i (bundleFrom single 0 i (owners (sale m n) (plain m) (2 ^ n) lists [] (worth us) (salePrices m n us g)))
-        + payment (sale m n) (plain m) (2 ^ n) lists [] (worth ws) (salePrices m n ws f) i (but i)
-        ≤ worth ws i (bundleFrom single 0 i (owners (sale m n) (plain m) (2 ^ n) lists [] (worth ws) (salePrices m n ws f)))
-        + payment (sale m n) (plain m) (2 ^ n) lists [] (worth us) (salePrices m n us g) i (but i)
-    unfolding salePrices
-    sale-no-gain f g room room′ =
-        sales.no-gain-sale (sale m n) (plain m) (2 ^ n) m lists sale-hall (worth ws) (worth us)
-        (sale-worths ws topped) (sale-worths us topped′) i (but i) (sale-buyer i r) [] others f g room room′
-        (salePrices m n ws f) (salePrices m n us g) refl refl

@@ -1,7 +1,6 @@
--- The rounds by coalition values are the sale's: what they did (`Done`) is what `Sold` says. With room for as many rounds as all lots are worth to all
--- buyers together, the sale is settled (`sold-settled`). Assumes what `Opens` says of the worths, and a table of the values.
+-- The rounds by coalition values are the sale's: what they did (`Done`) is what `Sold` says. Assumes what `Opens` says of the worths, and a table of the
+-- values.
 use mathlib.Core.Path.{_≡_, sym, ap, subst, _∙_}
-use mathlib.Core.Bool.{true}
 use mathlib.Core.List.{List}
 use Prim.Native.Nat.{ℕ, _-_, _^_, _≤_}
 use native.Mathlib.Omega.{arith}
@@ -16,10 +15,10 @@ use Rattle.owners.specs.Owners.{allocations, zeroFirst, single}
 use Rattle.owners.specs.Prices.{plain, zeros}
 use Rattle.owners.specs.Sales.{choose, sets, lastPrices, limit}
 use Rattle.owners.specs.Quick.{left, roster, valueOf}
-use Rattle.owners.specs.Singles.{worth, AtMost, Topped, sale, startPrices, saleSets, salePrices, saleChoice}
+use Rattle.owners.specs.Singles.{worth, AtMost, sale, startPrices, saleSets, salePrices, saleChoice}
 use Rattle.theory.specs.Lists.{over}
 use Rattle.owners.proofs.Quick.{quick-rounds, quick-last, quick-settled, roster-is, walk-values}
-use Rattle.owners.proofs.Singles.{limit-small, sale-hall, sale-worths, sale-settled}
+use Rattle.owners.proofs.Singles.{limit-small, sale-hall, sale-worths}
 use Rattle.rounds.specs.declared.State.{State}
 use Rattle.supply.specs.Supply.{shift, at}
 use Rattle.coalitions.specs.Values.{Valued}
@@ -84,7 +83,3 @@ sold {m} {n} {f} {ws = ws} {values} {o} opens valued e done =
       settled = d .settled ∙ ap (λ ps. eqb (lowestAt m (2 ^ n - 1) ws values ps) 0) last ∙ ap (λ c. eqb c 0) (sym end);
       bytes = d .bytes ∙ ap (λ s. over s o) same;
     }
-
-pub sold-settled : (m n f : ℕ) (ws o l : List ℕ) (r : State) → m ≤ 6 → n ≤ 4 → Topped m n ws → limit (sale m n) (plain m) (2 ^ n) (worth ws) ≤ f →
-    Sold m n ws f o l r → r .settled ≡ true
-sold-settled m n f ws o l r few short topped room sold = sold .settled ∙ ap (λ c. eqb c 0) (sale-settled m n few short ws topped f room)

@@ -4,7 +4,10 @@ use mathlib.Core.List.{List}
 use Prim.Native.Nat.{ℕ}
 use Rattle.sheet.specs.Sheets.{sheetOf}
 use Rattle.sheet.specs.Questions.{sheetFault}
+use Rattle.demand.proofs.Demands.{demand-below}
+use Rattle.sale.specs.Words.{quote}
 use Rattle.sale.specs.Claims.{Claimed, Sales}
+use Rattle.sale.proofs.Demanding as demanding
 use Rattle.sale.proofs.Lists as lists
 use Rattle.sale.proofs.Opening.{sale-closed}
 use Rattle.sale.proofs.Present as present
@@ -21,6 +24,9 @@ claimed b accepted =
         economy-all = lists.economy-all w;
       };
       at-prices = λ ps prices. record {
+        demand-means = demanding.demand-means b accepted ps prices;
+        demand-below = λ i. demand-below (w .lots) (quote w ps) i;
+        keen-means = demanding.keen-means b accepted ps prices;
         settled-iff-uce = theorems.settled-iff-uce b accepted ps prices;
         lowest-least = theorems.lowest-least b accepted ps;
         lowest-minimal = theorems.lowest-minimal b accepted ps;

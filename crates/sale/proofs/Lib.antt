@@ -2,6 +2,7 @@
 pub mod Instance
 pub mod Lists
 pub mod Theorems
+pub mod Demanding
 pub mod Present
 pub mod Opening
 pub mod Claimed

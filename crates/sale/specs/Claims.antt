@@ -11,6 +11,7 @@ use Rattle.theory.specs.Sums.{Among}
 use Rattle.theory.specs.Lists.{_∈_, Ordered, sumOver}
 use Rattle.theory.specs.Markets.{sumOf, total}
 use Rattle.theory.specs.Auction.{Minimal, size}
+use Rattle.numbers.specs.Numbers.{bit}
 use Rattle.owners.specs.Owners.{ComesBefore, lacks, member}
 use Rattle.owners.specs.Prices.{plain, read}
 use Rattle.sheet.specs.Sheets.{Sheet, sheetOf}
@@ -59,6 +60,12 @@ module _ (w : Sheet) where
 
   -- at any ninety-six prices
   pub record AtPrices (ps : List ℕ) : Type 0 where
+    -- the demand set's bits are the bundles of greatest payoff, and it has no others; keen is who has a bundle of positive payoff. Payoffs may be negative: they
+    -- are compared as sums.
+    pub demand-means : (i s : ℕ) → Among (w .buyers) 1 i → s < 2 ^ w .lots →
+        (bit s (demandSet w ps i) ≡ true) ↔ ((t : ℕ) → t < 2 ^ w .lots → worthOf w i t + priceAt w ps i s ≤ worthOf w i s + priceAt w ps i t)
+    pub demand-below : (i : ℕ) → demandSet w ps i < 2 ^ (2 ^ w .lots)
+    pub keen-means : (i : ℕ) → Among (w .buyers) 1 i → (isKeen w ps i ≡ true) ↔ ((s : ℕ) × (s < 2 ^ w .lots) × (priceAt w ps i s < worthOf w i s))
     -- no set, the empty one included, is undersupplied exactly if the prices are a UCE
     pub settled-iff-uce : (lowest w ps ≡ 0) ↔ UCE ps
     -- the lowest undersupplied set is the least, and minimal (definition 11)

@@ -1,8 +1,8 @@
 -- A sheet of 560 bytes or more is refused by questions 2 to 5 (`long-refused`), and its bytes past those make no difference (`long-alike`). Assumes
 -- nothing.
-use mathlib.Core.Path.{_≡_, refl, sym, ap, _∙_}
+use mathlib.Core.Path.{_≡_, refl, sym, _∙_}
 use mathlib.Core.Logic.{_≢_}
-use mathlib.Core.Bool.{Bool, true}
+use mathlib.Core.Bool.{Bool}
 use mathlib.Core.List.{List, _++_}
 use Prim.Native.Nat.{ℕ, _+_, _*_, _≤_}
 use native.Mathlib.Nat.{mul-le-mul}
@@ -55,7 +55,7 @@ module _ (b : List ℕ) (long : 560 ≤ length b) where
       omega (arith, yes-to 5, most-bytes (numberAt 0 b) (numberAt 6 b) (yes-to 3 .1) (yes-to 4 .1))
 
 -- a field within the first bytes
-field-front : (a c : List ℕ) (at : ℕ) → at + 6 ≤ length a → fieldAt at (a ++ c) ≡ fieldAt at a
+pub field-front : (a c : List ℕ) (at : ℕ) → at + 6 ≤ length a → fieldAt at (a ++ c) ≡ fieldAt at a
 field-front a c at h =
     rw (
       le-ltb (length (a ++ c)) (at + 6) (omega (arith, length-append a c)),

@@ -1,15 +1,16 @@
 -- The questions as propositions, in document 01's words, to read a sheet's fault by (`Question`); what is wrong at an offset with 6, 7 and 8 (`WrongAt`,
--- `LeastPlace`); and what is known of an accepted sheet (`Shape`, `Written`).
+-- `LeastPlace`); what is known of an accepted sheet (`Shape`, `Grows`, `Written`); and all that is claimed of sheets (`Sheets`).
 use mathlib.Core.Path.{_≡_}
-use mathlib.Core.Logic.{_≢_, _⊎_}
+use mathlib.Core.Logic.{_≢_, _⊎_, _↔_}
 use mathlib.Core.Bool.{true}
-use mathlib.Core.List.{List, [], _∷_}
+use mathlib.Core.List.{List, [], _∷_, _++_}
 use Prim.Native.Nat.{ℕ, suc, _+_, _-_, _*_, _^_, _≤_, _<_}
 use lib.ListN.{length, take, drop, getD}
 use Rattle.fields.specs.declared.Field.the-variants.{Number, Faulty}
 use Rattle.fields.specs.Fields.{fieldAt, columns}
 use Rattle.numbers.specs.Numbers.{bit}
 use Rattle.sheet.specs.Sheets.{Sheet, sheetOf, worth}
+use Rattle.sheet.specs.Questions.{sheetFault}
 
 -- where place c of line i begins: six columns to a field, and a line end to a line
 abbrev pub startOf : ℕ → ℕ → ℕ → ℕ
@@ -75,6 +76,10 @@ pub record Shape (w : Sheet) : Type 0 where
   pub nobody : (i s : ℕ) → s < 16 → w .buyers ≤ i → worth w i s ≡ 0
   pub nothing : (i s : ℕ) → s < 16 → 2 ^ w .lots ≤ s → worth w i s ≡ 0
 
+-- a bundle is worth at least as much as with one lot fewer
+abbrev pub Grows : Sheet → Type 0
+Grows w = (i s j : ℕ) → i < w .buyers → s < 2 ^ w .lots → j < w .lots → bit j s ≡ true → worth w i (s - 2 ^ j) ≤ worth w i s
+
 -- and its bytes: the first line, and each buyer's line, in the columns in which their numbers are written
 pub record Written (b : List ℕ) (w : Sheet) : Type 0 where
   pub long : length b ≡ 13 + w .buyers * (6 * (2 ^ w .lots - 1) + 1)
@@ -83,3 +88,29 @@ pub record Written (b : List ℕ) (w : Sheet) : Type 0 where
   pub head-end : getD b 12 0 ≡ 10
   pub worths : (i c : ℕ) → i < w .buyers → suc c < 2 ^ w .lots → take 6 (drop (startOf (w .lots) i c) b) ≡ columns 6 (worth w i (suc c))
   pub ends : (i : ℕ) → i < w .buyers → getD b (startOf (w .lots) i (2 ^ w .lots - 1)) 0 ≡ 10
+
+-- of any bytes b
+pub record Sheets : Type 0 where
+  -- a field has the number v exactly if its six bytes are those in which v is written
+  pub field-canonical : (b : List ℕ) (at v : ℕ) → (fieldAt at b ≡ Number v) ↔ ((at + 6 ≤ length b) × (v ≤ 999999) × (take 6 (drop at b) ≡ columns 6 v))
+  -- the number is that of the first question that gets a "no"
+  pub first-no : (b : List ℕ) (k : ℕ) → 1 ≤ k → (sheetFault b .number ≡ k) ↔ (((j : ℕ) → j < k → Question b j) × (Question b k → ⊥))
+  pub all-yes : (b : List ℕ) → (sheetFault b .number ≡ 0) ↔ ((k : ℕ) → Question b k)
+  pub refusal-range : (b : List ℕ) → sheetFault b .number ≤ 8
+  -- the place is 0, or with 6, 7 and 8 the least offset of what is wrong
+  pub place-zero : (b : List ℕ) → sheetFault b .number < 6 → sheetFault b .place ≡ 0
+  pub place-inside : (b : List ℕ) → 6 ≤ sheetFault b .number → (13 ≤ sheetFault b .place) × (sheetFault b .place < length b)
+  pub place-least : (b : List ℕ) → let w = sheetOf b in
+      (sheetFault b .number ≡ 6 → LeastPlace w (λ i c. Malformed w i c b) (sheetFault b .place))
+      × (sheetFault b .number ≡ 7 → LeastPlace w (TooLarge w) (sheetFault b .place))
+      × (sheetFault b .number ≡ 8 → LeastPlace w (Falls w) (sheetFault b .place))
+  -- an accepted sheet is a table of worths that grow, as it is written; and every such table, so written, is accepted and read as it is
+  pub accepted-shape : (b : List ℕ) → sheetFault b .number ≡ 0 → Shape (sheetOf b)
+  pub accepted-monotone : (b : List ℕ) → sheetFault b .number ≡ 0 → let w = sheetOf b in (i s t : ℕ) → i < w .buyers → s < 2 ^ w .lots → t < 2 ^ w .lots →
+      ((j : ℕ) → j < w .lots → bit j s ≡ true → bit j t ≡ true) → worth w i s ≤ worth w i t
+  pub accepted-written : (b : List ℕ) → sheetFault b .number ≡ 0 → Written b (sheetOf b)
+  pub written-accepted : (b : List ℕ) (w : Sheet) → Shape w → Grows w → Written b w → (sheetFault b .number ≡ 0) × (sheetOf b ≡ w)
+  -- a sheet with bytes missing at its end is refused; one of 560 bytes or more is, and those after them make no difference
+  pub prefix-refused : (a c : List ℕ) → sheetFault (a ++ c) .number ≡ 0 → 0 < length c → sheetFault a .number ≢ 0
+  pub long-refused : (b : List ℕ) → 560 ≤ length b → sheetFault b .number ≢ 0
+  pub long-alike : (a c : List ℕ) → 560 ≤ length a → sheetFault (a ++ c) ≡ sheetFault a

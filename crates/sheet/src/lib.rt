@@ -1,4 +1,5 @@
-// No code: what is read of a lot sheet, whose meaning is in specs/, with the theorems in proofs/.
+// What is read of a lot sheet. The meaning is in specs/, the theorems in proofs/; `lines` and `reading` have the code.
+ghost use Rattle.sheet.specs.Claims.{Sheets};
 
 // A refusal's number and place; 0 and 0 for none.
 pub struct Fault {
@@ -24,3 +25,8 @@ pub struct Worths {
     pub lots: u8,
     pub worths: [u16; 96],
 }
+
+// Does nothing. Its contract has the theorems about sheets, so that none can be dropped unseen.
+pub fn sheets_hold()
+    ensures { λ _. ⌜ Sheets ⌝ }
+{}

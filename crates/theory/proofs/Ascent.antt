@@ -1,5 +1,5 @@
--- A sale's own prices: a bidder demands what is worth its payoff or more (`asks-demand`), the rest costs nothing
--- (`asks-nothing`), and a raise of what it demands is 1 less payoff (`asks-raised`, `lower-exact`).
+-- A sale's own prices: a bidder demands what is worth its payoff or more (`asks-demand`), and a raise of what it
+-- demands is 1 less payoff (`asks-raised`, `lower-exact`).
 -- Some allocation always fits, `some-fits`: assumes monotone worths, and allocations in which bidders can be dropped.
 use mathlib.Core.Path.{_≡_}
 use mathlib.Core.Logic.{_↔_, inl, inr}
@@ -27,9 +27,6 @@ module _ (v : Table) (π : ℕ → ℕ) (i : ℕ) where
 
   pub asks-demand : (s : ℕ) → (v i s ≡ π i + asks v π i s) ↔ (π i ≤ v i s)
   asks-demand s = (λ h. omega arith, λ h. omega arith)
-
-  pub asks-nothing : (s : ℕ) → v i s ≤ π i → asks v π i s ≡ 0
-  asks-nothing s h = omega arith
 
   -- the best payoff, kept z higher, over a list of bundles that has one worth π
   pub asks-best : (z : ℕ) {top : ℕ} {l : List ℕ} → top ∈ l → π i ≤ v i top →

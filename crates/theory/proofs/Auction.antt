@@ -5,18 +5,15 @@ use mathlib.Core.Path.{_≡_, sym, _∙_}
 use mathlib.Core.Logic.{_↔_}
 use mathlib.Core.Bool.{Bool, true, false, _&&_}
 use mathlib.Core.List.{List}
-use Prim.Native.Nat.{ℕ, suc, _+_, _≤_}
+use Prim.Native.Nat.{ℕ, suc, _+_}
 use native.Mathlib.Omega.{arith}
 use Rattle.theory.specs.Lists.{_∈_, most}
 use Rattle.theory.specs.Tests.{Least}
 use Rattle.theory.specs.Markets.{Market, Table, Bidder, total, Equilibrium, Fits, only, asks}
-use Rattle.theory.specs.Auction.{Economy, Quote, fits, serves, closes, supplied, undersupplied, lowest, Numbered, Beneath, Ranked, Minimal, Truthful, Absent, own}
-use Rattle.theory.proofs.Tests.{Means, means-via, itself, eqb-means, leb-means, and-means, or-means, imp-means, not-means, every-means, some-means, by-test, fails, least-none, least-found, least-more}
+use Rattle.theory.specs.Auction.{Economy, Quote, fits, serves, closes, supplied, undersupplied, lowest, Numbered, Ranked, Minimal, Truthful, Absent, own}
+use Rattle.theory.proofs.Tests.{Means, means-via, itself, eqb-means, leb-means, and-means, or-means, imp-means, not-means, every-means, some-means, by-test, fails, least-none, least-found}
 use Rattle.theory.proofs.Ascent.{asks-cover, asks-demand, served-equilibrium}
 use Rattle.theory.proofs.Rounds.{by-choice}
-
-pub beneath-proper : {A : Type 0} (M : Market A) (set : ℕ → Bool) → Beneath M set set → ⊥
-beneath-proper M set beneath = let (i, r, p, q) = beneath .short in fails p q
 
 module _ {A : Type 0} (M : Market A) (q : Quote) where
   abbrev pub Suits : (ℕ → Bool) → A → Type 0
@@ -103,16 +100,6 @@ module _ {A : Type 0} (M : Market A) (q : Quote) where
           let (k, c) = lowest-found n e in
           absurd (c .2 (supplied-fewer (member n) (q .keen) k (c .0) (h (c .0) (c .1))))),
     )
-
-  -- to ask about more numbers than the sets need makes no difference
-  pub lowest-sets : (es : List (Economy A)) (member : ℕ → ℕ → Bool) (sets sets′ : ℕ) →
-      Numbered M member sets → sets ≤ sets′ → lowest M member sets′ es q ≡ lowest M member sets es q
-  lowest-sets es member sets sets′ numbered more =
-      by-choice (lowest M member sets es q)
-      (λ e.
-      let numbered′ : Numbered M member sets′ = λ t. let (n, l, same) = numbered t in (n, omega arith, same) in
-      settled-iff es member sets′ numbered′ .1 (settled-iff es member sets numbered .0 e) ∙ sym e)
-      (λ n e. least-more sets sets′ 0 (λ n. undersupplied M q es (member n)) n more e ∙ sym e)
 
 -- at prices to which bidders with worths v and payoffs b answer truthfully
 module _

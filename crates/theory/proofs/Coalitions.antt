@@ -1,6 +1,5 @@
 -- At a sale's own prices the lowest undersupplied set follows from the payoffs and a value for each set of bidders
--- (`lowest-by`), and so do the rounds (`rounds-by`). Values are `exact-values`, `within-values`; nothing is cut off
--- (`revenue-is`, `gain-exact`). Assumes `Ready`, `Proper`, and payoffs that come to at most `shift`.
+-- (`lowest-by`). Values are `exact-values`; nothing is cut off (`revenue-is`, `gain-exact`). Assumes `Ready`, `Proper`, and payoffs that come to at most `shift`.
 use mathlib.Core.Path.{_≡_, refl, sym, ap, _∙_}
 use mathlib.Core.Logic.{inl, inr}
 use mathlib.Core.Bool.{Bool, true, false, not, _&&_}
@@ -13,28 +12,19 @@ use Rattle.theory.specs.Sums.{when, sum, Among}
 use Rattle.theory.specs.Lists.{_∈_, most, upTo}
 use Rattle.theory.specs.Tests.{_⊃_}
 use Rattle.theory.specs.Markets.{Market, Table, Bidder, sumOf, total, Fits, only, asks}
-use Rattle.theory.specs.Rounds.{choices}
-use Rattle.theory.specs.Auction.{Economy, everyone, supplied, Numbered, own, Auction, Ready, Proper, Modest, chosen, round, rounds}
-use Rattle.theory.specs.Coalitions.{holder, HeldBy, heldBy, worthOf, Part, Holders, Values, Roster, rosterOf, payoffOf, inside, covers, gain, revenue, suppliedBy, lowestBy}
-use Rattle.theory.proofs.Tests.{by-test, fails, Means, same-test, itself, and-means, not-means, or-means, means-via, imp-means, every-means, some-means, every-same, some-same, some-map, least-same, eqb-means, leb-means}
+use Rattle.theory.specs.Auction.{Economy, everyone, supplied, own, Auction, Ready, Proper, Modest, chosen}
+use Rattle.theory.specs.Coalitions.{holder, HeldBy, Part, Holders, Values, Roster, rosterOf, payoffOf, inside, covers, gain, revenue, suppliedBy, lowestBy}
+use Rattle.theory.proofs.Tests.{by-test, fails, Means, same-test, itself, and-means, not-means, imp-means, every-means, some-means, every-same, some-same, some-map, least-same, eqb-means, leb-means}
 use Rattle.theory.proofs.Sums.{sum-mono, sum-same, sum-add, sum-tight, sum-part}
 use Rattle.theory.proofs.Lists.{most-upper, most-is, most-same, most-reached, upTo-in, upTo-from}
-use Rattle.theory.proofs.Ascent.{lower-sum}
 use Rattle.theory.proofs.Auction.{fits-means}
-use Rattle.theory.proofs.Rounds.{choices-same}
-use Rattle.theory.proofs.Sale.{sale-truthful, sale-fits, chosen-keen}
+use Rattle.theory.proofs.Sale.{sale-truthful, sale-fits}
 
 pub holds-some : {A : Type 0} (M : Market A) (a : A) (i : ℕ) → holder M a i ≡ true → M .holds a i ≡ 0 → ⊥
 holds-some M a i = not-means (eqb-means (M .holds a i) 0) .0
 
 pub holds-none : {A : Type 0} (M : Market A) (a : A) (i : ℕ) → holder M a i ≡ false → M .holds a i ≡ 0
 holds-none M a i p = eqb-true (M .holds a i) 0 (not-false (eqb (M .holds a i) 0) p)
-
-pub held-means : {A : Type 0} (M : Market A) (set : ℕ → Bool) (a : A) → Means (heldBy M set a) (HeldBy M set a)
-held-means M set a =
-    means-via (every-means (M .many) (M .low) (λ i r. or-means (itself (set i)) (eqb-means (M .holds a i) 0)))
-    (λ h i r p. elim (h i r) [ inl q ↦ fails q p | inr z ↦ z ])
-    (λ h i r. by-test (set i) (λ p. inl p) (λ p. inr (h i r p)))
 
 -- worths of what a set of bidders holds, against its payoffs and the prices
 module _ {A : Type 0} (M : Market A) (v : Table) (free : (i : ℕ) → Bidder M i → v i 0 ≡ 0) (π : ℕ → ℕ) where
@@ -150,15 +140,6 @@ module _ {A : Type 0} (X : Auction A) where
         (λ n a k p i r q.
         holds-none M a i (sym (named a k .1 i r) ∙ ap (λ n. X .member n i) (eqb-true (name a) n p) ∙ q))
         (λ a k. (name a, named a k .0, named a k .1, eq-eqb (name a) (name a) refl))
-
-    -- and of those that it holds
-    pub within-values : Numbered M (X .member) (X .sets) → Values X v al (λ n. worthOf M v al (X .member n))
-    within-values numbered =
-        tested-values (λ n a. heldBy M (X .member n) a)
-        (λ n a k p. held-means M (X .member n) a .0 p)
-        (λ a k.
-        let (n, l, same) = numbered (holder M a) in
-        (n, l, same, held-means M (X .member n) a .1 (λ i r p. holds-none M a i (sym (same i r) ∙ p))))
 
   -- equal values
   pub values-same : (v : Table) (al : List A) (f g : ℕ → ℕ) → ((n : ℕ) → n < X .sets → f n ≡ g n) →
@@ -333,26 +314,3 @@ module _ {A : Type 0} (X : Auction A) where
         (X .economies) (λ e m. ap not (supplied-by e m n keen))
         ∙ sym (some-map (λ p. not (suppliedBy R shift value π n p)) (λ e. e .present) (X .economies))))
         (λ p. rw p))
-
-  -- so the rounds follow from the values
-  module _
-      (ready : Ready X) (v : Table) (proper : Proper X v)
-      (al : List A) (value : ℕ → ℕ) (values : Values X v al value)
-      (part : (e : Economy A) → e ∈ X .economies → Part M al e) (shift : ℕ) where
-    abbrev Within : (ℕ → ℕ) → Type 0
-    Within π = Modest X v π × (sumOf M π ≤ shift)
-
-    pub rounds-by : (π : ℕ → ℕ) → Modest X v π → sumOf M π ≤ shift → (f : ℕ) →
-        rounds X v π f ≡ choices (lowestBy R shift value) (round X) f π
-    rounds-by π modest wide f =
-        choices-same (λ π. chosen X (own v π)) (round X) (lowestBy R shift value) (round X) (λ σ τ. (σ ≡ τ) × Within σ)
-        (λ σ τ h.
-        lowest-by ready v proper al value values part σ (h .1 .0) shift (h .1 .1) ∙ ap (lowestBy R shift value) (h .0))
-        (λ σ τ x h c. (
-          ap (round X x) (h .0),
-          (
-            λ i r. omega (arith, h .1 .0 i r),
-            omega (arith, h .1 .1, lower-sum M (X .member x) σ (chosen-keen X ready v proper σ x c)),
-          ),
-        ))
-        f π π (refl, (modest, wide))

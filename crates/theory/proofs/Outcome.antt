@@ -6,28 +6,11 @@ use mathlib.Core.Logic.{_≢_}
 use mathlib.Core.List.{List}
 use Prim.Native.Nat.{ℕ, _+_, _≤_}
 use Rattle.theory.specs.Lists.{_∈_}
-use Rattle.theory.specs.Markets.{Market, Table, Bidder, sumOf, Pays, Exact, worthPay, pricePay}
-use Rattle.theory.specs.Auction.{Quote, whole, closing, direct, own, Auction, Ready, Proper, Leaving, Buyer, Modest, last, Settled, Settlement}
+use Rattle.theory.specs.Markets.{Market, Table, Bidder, Pays, Exact, worthPay, pricePay}
+use Rattle.theory.specs.Auction.{Quote, whole, closing, direct, Auction, Proper, Leaving, Buyer, Settlement}
 use Rattle.theory.proofs.Payments.{pays-some}
 use Rattle.theory.proofs.NoGain.{no-gain}
 use Rattle.theory.proofs.Settled.{direct-in, direct-efficient, settled-owners, settled-payment, settled-exact}
-use Rattle.theory.proofs.Sale.{sale-truthful, sale-settles}
-
-module _ {A : Type 0} (X : Auction A) (ready : Ready X) (v : Table) (proper : Proper X v) where
-  -- payoffs at which nothing is undersupplied
-  pub own-settlement : (π : ℕ → ℕ) → Settled X v π → Settlement X v π (own v π)
-  own-settlement π settled =
-      record {
-        ready = ready;
-        proper = proper;
-        truthful = λ e _. sale-truthful X ready v proper π e;
-        settled = settled;
-      }
-
-  -- a sale's last payoffs, after as many rounds as the first make up
-  pub sale-settlement : (π : ℕ → ℕ) → Modest X v π → (f : ℕ) → sumOf (X .market) π ≤ f →
-      Settlement X v (last X v π f) (own v (last X v π f))
-  sale-settlement π modest f room = own-settlement (last X v π f) (sale-settles X ready v proper π modest f room)
 
 module _ {A : Type 0} (X : Auction A) (al : List A) {a : A} (m : a ∈ al) (d : A) where
   abbrev M : Market A

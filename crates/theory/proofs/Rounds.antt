@@ -88,9 +88,6 @@ module _ {S : Type 0} (choose : S → ℕ) (step : ℕ → S → S) where
     choices-along (suc f) σ (suc k) g =
         by-choice (choose σ) (λ e. rw e g) (λ x e. rw e (choices-along f (step x σ) k (good σ x g e)))
 
-    pub choices-good : (f : ℕ) (σ : S) → Good σ → Good (after step σ (taken f σ))
-    choices-good f σ g = rw take-length at (choices-along f σ (length (taken f σ)) g)
-
     -- a round takes the size of its choice, 1 or more, from what is left
     module _
         (left : S → ℕ) (size : ℕ → ℕ)

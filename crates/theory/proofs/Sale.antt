@@ -3,20 +3,19 @@
 -- left make up the first payoffs (`sale-raises`). Assumes `Ready`, `Proper`, and first payoffs up to the worths of all.
 use mathlib.Core.Path.{_≡_}
 use mathlib.Core.Bool.{Bool, true, false, not, _&&_}
-use Prim.Native.Nat.{ℕ, suc, _+_, _≤_, _<_}
+use Prim.Native.Nat.{ℕ, suc, _+_, _≤_}
 use native.Mathlib.Omega.{arith}
-use lib.ListN.{length, take, getD}
+use lib.ListN.{length}
 use borrow.Author.Tests.{not-false}
 use Rattle.theory.specs.Sums.{when}
 use Rattle.theory.specs.Lists.{_∈_, sumOver}
 use Rattle.theory.specs.Markets.{Market, Table, Bidder, sumOf, Fits, asks}
-use Rattle.theory.specs.Auction.{Economy, everyone, undersupplied, Truthful, Absent, own, Auction, Ready, Proper, Modest, Settled, chosen, round, rounds, last, size}
-use Rattle.theory.specs.Rounds.{after}
+use Rattle.theory.specs.Auction.{Economy, everyone, undersupplied, Truthful, own, Auction, Ready, Proper, Modest, Settled, chosen, round, rounds, last, size}
 use Rattle.theory.proofs.Tests.{by-test, fails, itself, and-means, not-means, leb-means, every-means, every-fails}
 use Rattle.theory.proofs.Sums.{sum-part}
 use Rattle.theory.proofs.Ascent.{some-fits, lower-sum}
 use Rattle.theory.proofs.Auction.{Suits, supplied-means, undersupplied-means, lowest-least, lowest-found, fits-means, own-truthful}
-use Rattle.theory.proofs.Rounds.{choices-chosen, choices-along, choices-good, choices-settle, choices-few, choices-sizes}
+use Rattle.theory.proofs.Rounds.{choices-settle, choices-few, choices-sizes}
 
 module _ {A : Type 0} (X : Auction A) (ready : Ready X) (v : Table) (proper : Proper X v) where
   abbrev M : Market A
@@ -27,9 +26,6 @@ module _ {A : Type 0} (X : Auction A) (ready : Ready X) (v : Table) (proper : Pr
 
   pub sale-truthful : (π : ℕ → ℕ) (e : Economy A) → Truthful M v π (e .lists) (own v π)
   sale-truthful π e = own-truthful v π M (proper .free) (e .lists)
-
-  pub sale-absent : (e : Economy A) → e ∈ X .economies → Absent M e
-  sale-absent e m = ready .sound e m .absent
 
   module _ (π : ℕ → ℕ) (modest : Modest X v π) where
     pub sale-fits : (e : Economy A) → e ∈ X .economies →
@@ -85,12 +81,6 @@ module _ {A : Type 0} (X : Auction A) (ready : Ready X) (v : Table) (proper : Pr
 
   -- at most f rounds from modest payoffs on
   module _ (π : ℕ → ℕ) (modest : Modest X v π) (f : ℕ) where
-    pub sale-modest : (k : ℕ) → Modest X v (after (round X) π (take k (rounds X v π f)))
-    sale-modest k = choices-along choose (round X) (Modest X v) stays f π k modest
-
-    pub last-modest : Modest X v (last X v π f)
-    last-modest = choices-good choose (round X) (Modest X v) stays f π modest
-
     pub sale-settles : sumOf M π ≤ f → Settled X v (last X v π f)
     sale-settles room = choices-settle choose (round X) (Modest X v) stays (sumOf M) (size X) falls f π modest room
 
@@ -99,7 +89,3 @@ module _ {A : Type 0} (X : Auction A) (ready : Ready X) (v : Table) (proper : Pr
 
     pub sale-raises : sumOver (size X) (rounds X v π f) + sumOf M (last X v π f) ≡ sumOf M π
     sale-raises = choices-sizes choose (round X) (Modest X v) stays (sumOf M) (size X) falls f π modest
-
-    pub sale-chosen : (k : ℕ) → k < length (rounds X v π f) →
-        chosen X (own v (after (round X) π (take k (rounds X v π f)))) ≡ suc (getD (rounds X v π f) k 0)
-    sale-chosen k h = choices-chosen choose (round X) f π k h

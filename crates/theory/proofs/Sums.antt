@@ -1,13 +1,11 @@
 -- Laws of sums over a range: order (`sum-mono`, `sum-tight`), addition (`sum-add`), and sums of functions that differ
 -- at one place (`sum-but`, `sum-swap`).
-use mathlib.Core.Path.{_≡_, refl, sym, ap}
+use mathlib.Core.Path.{_≡_, refl, ap}
 use mathlib.Core.Logic.{_≢_}
 use Prim.Native.Nat.{ℕ, zero, suc, _+_, _*_, _≤_}
 use native.Mathlib.Omega.{arith}
 use native.Mathlib.Decide.{ℕ-discrete}
-use lib.Dec.{eqb}
-use borrow.Author.Tests.{eq-eqb, ne-eqb}
-use Rattle.theory.specs.Sums.{when, sum, Among}
+use Rattle.theory.specs.Sums.{sum, Among}
 
 pub sum-mono : (k s : ℕ) (f g : ℕ → ℕ) → ((i : ℕ) → Among k s i → f i ≤ g i) → sum k s f ≤ sum k s g
 sum-mono zero s f g h = omega arith
@@ -57,16 +55,6 @@ sum-swap k s f g i r h =
 pub sum-tight : (k s : ℕ) (f g : ℕ → ℕ) → ((i : ℕ) → Among k s i → f i ≤ g i) → sum k s g ≤ sum k s f →
     (i : ℕ) → Among k s i → f i ≡ g i
 sum-tight k s f g h e i r = omega (arith, h i r, sum-but k s f g i r (λ j q n. h j q))
-
--- a sum of which only the place i counts
-pub sum-only : (k s : ℕ) (i n : ℕ) → Among k s i → sum k s (λ j. when (eqb i j) n) ≡ n
-sum-only k s i n r =
-    omega (
-      arith,
-      sum-zero k s,
-      sum-swap k s (λ j. when (eqb i j) n) (λ _. 0) i r (λ j q z. rw (ne-eqb i j (λ e. z (sym e)))),
-      ap (λ b. when b n) (eq-eqb i i refl),
-    )
 
 pub sum-part : (k s : ℕ) (f : ℕ → ℕ) (i : ℕ) → Among k s i → f i ≤ sum k s f
 sum-part k s f i r = omega (arith, sum-but k s (λ _. 0) f i r (λ j q n. omega arith))

@@ -1,23 +1,18 @@
--- Prices are settled exactly if they are a universal competitive equilibrium (`settled-universal`); a sale's last
--- prices are one (`sale-universal`), and none before is (`sale-not-yet`).
+-- Prices are settled exactly if they are a universal competitive equilibrium (`settled-universal`).
 -- Assumes bidders that answer by their greatest payoffs over all bundles, as they do at a sale's own prices.
 use mathlib.Core.Path.{_≡_}
 use mathlib.Core.Logic.{_↔_}
 use mathlib.Core.Bool.{Bool}
 use mathlib.Core.List.{List}
-use Prim.Native.Nat.{ℕ, _≤_, _<_}
+use Prim.Native.Nat.{ℕ}
 use native.Mathlib.Omega.{arith}
-use lib.ListN.{length, take}
 use Rattle.theory.specs.Lists.{_∈_}
-use Rattle.theory.specs.Markets.{Market, Table, sumOf, total, Equilibrium, asks, only}
-use Rattle.theory.specs.Rounds.{after}
-use Rattle.theory.specs.Auction.{Economy, Quote, supplied, lowest, Numbered, Truthful, Absent, own, Auction, Ready, Proper, Modest, Settled, round, rounds, last}
+use Rattle.theory.specs.Markets.{Market, Table, total, Equilibrium, only}
+use Rattle.theory.specs.Auction.{Economy, Quote, supplied, lowest, Numbered, Truthful, Absent}
 use Rattle.theory.specs.Universal.{Competitive, Universal, Answers, Bundled}
-use Rattle.theory.proofs.Tests.{Means, means-via, by-test, leb-means}
+use Rattle.theory.proofs.Tests.{Means, means-via, by-test}
 use Rattle.theory.proofs.Lists.{most-upper, most-is}
-use Rattle.theory.proofs.Ascent.{asks-cover, asks-demand}
-use Rattle.theory.proofs.Auction.{settled-iff, supplied-equilibrium, own-wants}
-use Rattle.theory.proofs.Sale.{sale-absent, sale-modest, last-modest, sale-settles, sale-chosen}
+use Rattle.theory.proofs.Auction.{settled-iff, supplied-equilibrium}
 
 module _
     {A : Type 0} (M : Market A) (bundle : ℕ → Type 0) (v : Table) (b : ℕ → ℕ) (q : Quote)
@@ -67,44 +62,3 @@ module _
         λ h e m. supplied-competitive e (held e m) (absent e m) .0 (settled .0 h e m),
         λ h. settled .1 (λ e m. supplied-competitive e (held e m) (absent e m) .1 (h e m)),
       )
-
--- at a sale's own prices
-module _
-    {A : Type 0} (X : Auction A) (ready : Ready X) (v : Table) (proper : Proper X v)
-    (bundle : ℕ → Type 0) (top : bundle (X .top))
-    (held : (e : Economy A) → e ∈ X .economies → Bundled (X .market) bundle (e .lists)) where
-  pub own-answers : (π : ℕ → ℕ) → Modest X v π → Answers (X .market) bundle v π (own v π)
-  own-answers π modest =
-      record {
-        covered = λ i r s k. asks-cover v π i s;
-        reached = λ i r. (X .top, top, asks-demand v π i (X .top) .1 (modest i r));
-        wanted = λ i r s k. own-wants v π i s;
-        eager = λ i r. leb-means 1 (π i);
-        free = λ i r. (proper .free i r, omega (arith, proper .free i r));
-      }
-
-  pub own-universal : (π : ℕ → ℕ) → Modest X v π →
-      Settled X v π ↔ Universal (X .market) bundle v (asks v π) (X .economies)
-  own-universal π modest =
-      settled-universal (X .market) bundle v π (own v π) (own-answers π modest)
-      (X .economies) (X .member) (X .sets) (ready .numbered) held (sale-absent X ready v proper)
-
-  module _ (π : ℕ → ℕ) (modest : Modest X v π) (f : ℕ) where
-    abbrev before : ℕ → ℕ → ℕ
-    before k = after (round X) π (take k (rounds X v π f))
-
-    pub sale-universal : sumOf (X .market) π ≤ f →
-        Universal (X .market) bundle v (asks v (last X v π f)) (X .economies)
-    sale-universal room =
-        own-universal (last X v π f) (last-modest X ready v proper π modest f) .0
-        (sale-settles X ready v proper π modest f room)
-
-    -- the prices before each round are none
-    pub sale-not-yet : (k : ℕ) → k < length (rounds X v π f) →
-        Universal (X .market) bundle v (asks v (before k)) (X .economies) → ⊥
-    sale-not-yet k h u =
-        omega (
-          arith,
-          sale-chosen X ready v proper π modest f k h,
-          own-universal (before k) (sale-modest X ready v proper π modest f k) .1 u,
-        )

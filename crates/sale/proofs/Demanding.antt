@@ -1,0 +1,48 @@
+-- What a demand set and a keen buyer are, by payoffs, at any ninety-six prices (`demand-means`, `keen-means`). Assumes nothing.
+use mathlib.Core.Path.{_≡_, sym, _∙_}
+use mathlib.Core.Logic.{_↔_}
+use mathlib.Core.Bool.{true}
+use mathlib.Core.List.{List}
+use Prim.Native.Nat.{ℕ, _+_, _-_, _^_, _≤_, _<_}
+use native.Mathlib.Omega.{arith}
+use Rattle.theory.specs.Sums.{Among}
+use Rattle.theory.specs.Universal.{Answers}
+use Rattle.numbers.specs.Numbers.{bit}
+use Rattle.owners.specs.Prices.{plain}
+use Rattle.owners.proofs.Prices.{small-fair, quote-answers}
+use Rattle.owners.proofs.Sales.{priced}
+use Rattle.demand.proofs.Demands.{demand-bit}
+use Rattle.sheet.specs.Sheets.{Sheet, sheetOf}
+use Rattle.sheet.specs.Questions.{sheetFault}
+use Rattle.sale.specs.Words.{worthOf, priceAt, allocations, market, theAuction, best, quote, demandSet, isKeen}
+use Rattle.sale.specs.Claims.{Prices}
+use Rattle.sale.proofs.Instance.{hall, worths}
+
+module _ (b : List ℕ) (accepted : sheetFault b .number ≡ 0) (ps : List ℕ) (prices : Prices ps) where
+  abbrev w : Sheet
+  w = sheetOf b
+
+  abbrev all : ℕ
+  all = 2 ^ w .lots
+
+  answers : Answers (market w) (λ s. s < all) (worthOf w) (λ i. best w ps i - 65535) (quote w ps)
+  answers =
+      quote-answers (priced (theAuction w) (plain (w .buyers)) all (w .buyers) (allocations w) (hall b accepted) (worthOf w) (worths b accepted)) ps
+      (small-fair (market w) (plain (w .buyers)) all (worthOf w) ps (prices .small))
+
+  pub demand-means : (i s : ℕ) → Among (w .buyers) 1 i → s < all →
+      (bit s (demandSet w ps i) ≡ true) ↔ ((t : ℕ) → t < all → worthOf w i t + priceAt w ps i s ≤ worthOf w i s + priceAt w ps i t)
+  demand-means i s r h =
+      let is-bit = demand-bit (w .lots) (quote w ps) i s h in
+      let (to, from) = answers .wanted i r s h in
+      let (t, g, e) = answers .reached i r in (
+        λ x u k. omega (arith, to (sym is-bit ∙ x), answers .covered i r u k),
+        λ most. is-bit ∙ from (omega (arith, most t g, e, answers .covered i r s h)),
+      )
+
+  pub keen-means : (i : ℕ) → Among (w .buyers) 1 i → (isKeen w ps i ≡ true) ↔ ((s : ℕ) × (s < all) × (priceAt w ps i s < worthOf w i s))
+  keen-means i r =
+      let (to, from) = answers .eager i r in (
+        λ x. let (s, h, e) = answers .reached i r in (s, h, omega (arith, to x, e)),
+        λ (s, h, l). from (omega (arith, l, answers .covered i r s h)),
+      )

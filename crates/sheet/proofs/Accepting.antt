@@ -1,0 +1,112 @@
+-- A sheet in which a table of worths is written is accepted, and read as that table (`written-accepted`); one with bytes missing at its end is refused
+-- (`prefix-refused`). `sheets-all` has all the theorems about sheets. Assumes nothing.
+use mathlib.Core.Path.{_≡_, refl, sym, ap, subst, _∙_}
+use mathlib.Core.Logic.{_≢_}
+use mathlib.Core.List.{List, _++_}
+use Prim.Native.Nat.{ℕ, zero, suc, _+_, _*_, _/_, _%_, _^_, _≤_, _<_}
+use native.Mathlib.Nat.{suc-mul, mul-le-mul-right}
+use native.Mathlib.Omega.{arith}
+use native.Mathlib.Decide.{decLt}
+use lib.ListN.{length, take, drop, getD, length-append}
+use Rattle.theory.proofs.Loops.{filled-all}
+use Rattle.fields.specs.declared.Field.the-variants.{Number}
+use Rattle.fields.specs.Fields.{fieldAt, columns, numberOf}
+use Rattle.fields.proofs.Canonical.{field-canonical}
+use Rattle.sheet.specs.Sheets.{lineLength, offset, Sheet, asSheet, sheetOf, worth, worthPlace, worthsIn}
+use Rattle.sheet.specs.Questions.{sheetFault}
+use Rattle.sheet.specs.Claims.{questions, Shape, Grows, Written, Sheets}
+use Rattle.sheet.proofs.Places.{worth-empty, worth-nobody, worth-nothing, worth-there}
+use Rattle.sheet.proofs.Faults.{first-no, all-yes}
+use Rattle.sheet.proofs.Long.{field-front, long-refused, long-alike}
+use Rattle.sheet.proofs.Theorems.{refusal-range, place-zero, place-inside, place-least, accepted-shape, accepted-monotone, accepted-written}
+
+module _ (b : List ℕ) (w : Sheet) (shape : Shape w) (written : Written b w) where
+  abbrev m : ℕ
+  m = w .buyers
+
+  abbrev n : ℕ
+  n = w .lots
+
+  field-read : (at v : ℕ) → at + 6 ≤ length b → v ≤ 9999 → take 6 (drop at b) ≡ columns 6 v → fieldAt at b ≡ Number v
+  field-read at v room small e = field-canonical b at v .1 (room, omega arith, e)
+
+  buyers-read : fieldAt 0 b ≡ Number m
+  buyers-read = field-read 0 m (omega (arith, written .long)) (omega (arith, shape .few-buyers)) (written .buyers)
+
+  lots-read : fieldAt 6 b ≡ Number n
+  lots-read = field-read 6 n (omega (arith, written .long)) (omega (arith, shape .few-lots)) (written .lots)
+
+  worth-read : (i c : ℕ) → i < m → suc c < 2 ^ n → fieldAt (offset n i c) b ≡ Number (worth w i (suc c))
+  worth-read i c h g =
+      field-read (offset n i c) (worth w i (suc c))
+      (omega (arith, written .long, suc-mul i (lineLength n), mul-le-mul-right {m = suc i} {n = m} (lineLength n) h))
+      (shape .small (16 * i + suc c)) (written .worths i c h g)
+
+  place-same : (i s : ℕ) → s < 16 → worth w i s ≡ worthPlace m n b i s
+  place-same i s l =
+      elim (decLt i m) [
+        | no h ↦ shape .nobody i s l (omega arith) ∙ worth-nobody m n b i s (omega arith)
+        | yes h ↦
+            elim (decLt s (2 ^ n)) [
+              | no g ↦ shape .nothing i s l (omega arith) ∙ worth-nothing m n b i s (omega arith)
+              | yes g ↦ present i s h g
+            ]
+      ]
+    where
+      present : (i s : ℕ) → i < m → s < 2 ^ n → worth w i s ≡ worthPlace m n b i s
+      present i zero h g = shape .empty i ∙ worth-empty m n b i 0 refl
+      present i (suc c) h g = sym (ap numberOf (worth-read i c h g)) ∙ worth-there m n b i c h g
+
+  worths-same : worthsIn m n b ≡ w .worths
+  unfolding worthsIn
+  worths-same =
+      sym
+      (filled-all (λ k. worthPlace m n b (k / 16) (k % 16)) 96 96 (w .worths) (omega arith)
+      (record {
+        long = shape .long;
+        done = λ k h. let whole : 16 * (k / 16) + k % 16 ≡ k = omega arith in rw whole at (place-same (k / 16) (k % 16) (omega arith));
+      }))
+
+  same-sheet : sheetOf b ≡ w
+  same-sheet = rw (ap numberOf buyers-read, ap numberOf lots-read) (ap (asSheet m n) worths-same)
+
+  pub written-accepted : Grows w → (sheetFault b .number ≡ 0) × (sheetOf b ≡ w)
+  written-accepted grows = (all-yes b .1 (subst (λ x. (k : ℕ) → getD (questions b x) k (Unit {0})) (sym same-sheet) told), same-sheet)
+    where
+      told : (k : ℕ) → getD (questions b w) k (Unit {0})
+      told zero = tt
+      told (suc zero) = omega (arith, written .long)
+      told (suc (suc zero)) = ((m, buyers-read), (n, lots-read), written .head-end)
+      told (suc (suc (suc zero))) = (shape .some-buyers, shape .few-buyers)
+      told (suc (suc (suc (suc zero)))) = (shape .some-lots, shape .few-lots)
+      told (suc (suc (suc (suc (suc zero))))) = written .long
+      told (suc (suc (suc (suc (suc (suc zero)))))) = (λ i c h g. (worth w i (suc c), worth-read i c h g), written .ends)
+      told (suc (suc (suc (suc (suc (suc (suc zero))))))) = λ i s h g. shape .small (16 * i + s)
+      told (suc (suc (suc (suc (suc (suc (suc (suc zero)))))))) = λ i s j h g l t _. grows i s j h g l t
+      told (suc (suc (suc (suc (suc (suc (suc (suc (suc k))))))))) = tt
+
+pub prefix-refused : (a c : List ℕ) → sheetFault (a ++ c) .number ≡ 0 → 0 < length c → sheetFault a .number ≢ 0
+prefix-refused a c whole some part =
+    let yes-to = all-yes a .0 part in
+    let buyers = ap numberOf (field-front a c 0 (omega (arith, yes-to 1))) in
+    let lots = ap numberOf (field-front a c 6 (omega (arith, yes-to 1))) in
+    omega (arith, length-append a c, yes-to 5, rw (buyers, lots) at (all-yes (a ++ c) .0 whole 5))
+
+pub sheets-all : Sheets
+sheets-all =
+    record {
+      field-canonical = field-canonical;
+      first-no = first-no;
+      all-yes = all-yes;
+      refusal-range = refusal-range;
+      place-zero = place-zero;
+      place-inside = place-inside;
+      place-least = place-least;
+      accepted-shape = accepted-shape;
+      accepted-monotone = accepted-monotone;
+      accepted-written = accepted-written;
+      written-accepted = λ b w shape grows written. written-accepted b w shape written grows;
+      prefix-refused = prefix-refused;
+      long-refused = long-refused;
+      long-alike = long-alike;
+    }
