@@ -1,16 +1,14 @@
--- One walk over all owner lists. Offers what each step of it adds: a lot to a bundle (`bundle-more`), a buyer to a set and a total (`Partly`), a total to the
--- table (`put-rises`), an owner to the lists (`walk-step`); and that the whole table has the values (`valued`). Assumes nothing.
+-- One walk over all owner lists. Offers what each step of it adds: a buyer to a set and a total (`Partly`), a total to the table
+-- (`put-rises`), an owner to the lists (`walk-step`); and that the whole table has the values (`valued`). Assumes nothing.
 use mathlib.Core.Path.{_≡_, refl, sym, ap, _∙_}
 use mathlib.Core.Bool.{true, false}
 use mathlib.Core.List.{List, [], _∷_, _++_, append-assoc, append-nil}
-use Prim.Native.Nat.{ℕ, zero, suc, max, _+_, _-_, _*_, _^_, _≤_, _<_}
-use native.Mathlib.Nat.{add-assoc, pow-suc, pow-le-pow-right}
-use native.Mathlib.Numerals.{add-one}
+use Prim.Native.Nat.{ℕ, zero, suc, max, _+_, _-_, _*_, _≤_, _<_}
 use native.Mathlib.Omega.{arith}
 use native.Mathlib.Decide.{ℕ-discrete}
-use lib.Dec.{eqb, lit<}
+use lib.Dec.{eqb}
 use lib.ListN.{length, take, getD, set, replicate}
-use lib.Seq.{slice, slice-cons, take-suc-set, getD-set-same, getD-set-other}
+use lib.Seq.{take-suc-set, getD-set-same, getD-set-other}
 use borrow.Author.Tests.{eq-eqb, ne-eqb}
 use Rattle.theory.specs.Sums.{when, sum}
 use Rattle.theory.specs.Lists.{most, upTo}
@@ -27,17 +25,6 @@ use Rattle.owners.proofs.Bits.{number-down, number-small}
 use Rattle.owners.proofs.Singles.{worth-small}
 use Rattle.coalitions.specs.declared.Outcome.{Outcome}
 use Rattle.coalitions.specs.Values.{Walked, Valued, ComesTo}
-
--- one lot more of a bundle
-pub bundle-more : (os : List ℕ) (n j i b T : ℕ) → j < n → n ≤ length os → b + bundleFrom single j i (slice j n os) ≡ T →
-    b + when (eqb (getD os j 0) i) (2 ^ j) + bundleFrom single (j + 1) i (slice (j + 1) n os) ≡ T
-bundle-more os n j i b T h l e = rw (add-assoc, add-one) (ap (λ (t : List ℕ). b + bundleFrom single j i t) (sym (slice-cons j n os 0 h l)) ∙ e)
-
-pub pow-more : (w j : ℕ) → w ≡ 2 ^ j → w * 2 ≡ 2 ^ (j + 1)
-pow-more w j e = rw (add-one, pow-suc, e) refl
-
-pub pow-small : (w j : ℕ) → w ≡ 2 ^ j → j ≤ 4 → w ≤ 16
-pow-small w j e h = rw e (pow-le-pow-right {n = 2} (lit< tt) h)
 
 -- the holders and the total of an owner list, as far as the buyers after i go
 pub record Partly (m : ℕ) (ws a : List ℕ) (i n t : ℕ) : Type 0 where

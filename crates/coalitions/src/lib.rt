@@ -4,10 +4,11 @@ ghost use Prim.Native.Nat.{ℕ, max, _-_, _≤_, _<_};
 ghost use lib.Dec.{eqb};
 ghost use lib.ListN.{take, getD};
 ghost use Rattle.theory.specs.Sums.{when};
-ghost use Rattle.owners.specs.Owners.{bundleFrom, single};
 ghost use Rattle.owners.specs.Singles.{AtMost};
 ghost use Rattle.coalitions.specs.Values.{Walked, Valued, ComesTo};
 use numbers::wide;
+use totals::bundle_of;
+use totals::with_owner;
 
 // What an owner list comes to: the number of the set of buyers that own something, and the total of their worths.
 pub struct Outcome {
@@ -15,26 +16,8 @@ pub struct Outcome {
     pub total: u32,
 }
 
-// Buyer i's bundle in the first lots of an owner list.
-fn bundle(owners: [usize; 4], lots: usize, i: usize) -> usize
-    requires { ⌜ lots ≤ 4 ⌝ }
-    ensures { λ r. ⌜ (r ≡ bundleFrom single 0 i (take lots owners)) × (r < 16) ⌝ }
-{
-    let mut b: usize = 0;
-    let mut share: usize = 1;
-    let mut j: usize = 0;
-    while j < lots {
-        if owners[j] == i {
-            b += share;
-        }
-        share = share * 2;
-        j += 1;
-    }
-    b
-}
-
 // What the first lots of an owner list come to.
-fn outcome_of(worths: &[u16; 96], buyers: usize, owners: [usize; 4], lots: usize) -> Outcome
+fn outcome_of(worths: &[u16; 96], buyers: usize, owners: [u8; 4], lots: usize) -> Outcome
     requires { ⌜ (buyers ≤ 6) × (lots ≤ 4) ⌝ }
     ensures { λ r. ⌜ ComesTo buyers (now (worths .entry)) (take lots owners) r ⌝ }
 {
@@ -42,7 +25,7 @@ fn outcome_of(worths: &[u16; 96], buyers: usize, owners: [usize; 4], lots: usize
     let mut total: u32 = 0;
     let mut i: usize = buyers;
     while 0 < i {
-        let b = bundle(owners, lots, i);
+        let b = bundle_of(owners, lots, i);
         set = 2 * set;
         if b != 0 {
             let at = 16 * (i - 1) + b;
@@ -71,7 +54,7 @@ fn walk(
     worths: &[u16; 96],
     buyers: usize,
     lots: usize,
-    owners: [usize; 4],
+    owners: [u8; 4],
     left: usize,
     values: [u32; 64],
 ) -> [u32; 64]
@@ -86,8 +69,7 @@ fn walk(
     let mut all = values;
     let mut o: usize = 0;
     while o <= buyers {
-        let mut next = owners;
-        next[lot] = o;
+        let next = with_owner(owners, lot, o);
         let more = walk(worths, buyers, lots, next, left - 1, all);
         all = more;
         o += 1;

@@ -17,6 +17,7 @@ use Rattle.coalitions.proofs.walk.Kinds as walk-kinds
 use Rattle.coalitions.proofs.+walk.Lts-walk as walk-lts
 use Rattle.coalitions.proofs.outcome_of.Reads as outcome-of-reads
 use Rattle.coalitions.proofs.with_total.Reads as with-total-reads
+use Rattle.totals.proofs.with_owner.Reads as with-owner-reads
 use Rattle.coalitions.proofs.+walk.{statement}
 use Rattle.coalitions.proofs.+walk.Tie.{close}
 
@@ -41,7 +42,7 @@ abbrev μ-loop : walk-lts.MeasureT-loop
 μ-loop worths buyers lots owners left lot all₀ o₀ all o = buyers + 1 - o
 
 abbrev claims : ℕ → walk-lts.Claims
-claims t = (outcome-of-reads.Asked, outcome-of-reads.Learnt, with-total-reads.Asked, with-total-reads.Learnt, walk-below t, walk.Post)
+claims t = (outcome-of-reads.Asked, outcome-of-reads.Learnt, with-total-reads.Asked, with-total-reads.Learnt, with-owner-reads.Asked, with-owner-reads.Learnt, walk-below t, walk.Post)
 
 module _ (t : ℕ) where
   outcome-of-requires : walk-lts.Need-outcome-of-requires (claims t) (walk-at t) walk.Post Inv-loop μ-loop
@@ -70,11 +71,8 @@ module _ (t : ℕ) where
             (z .buyers) (z .left) (getD (z .values) n 0) (c .if1 .left),
       )
 
-  mul-next : walk-lts.Need-mul-next (claims t) (walk-at t) walk.Post Inv-loop μ-loop
-  mul-next c = omega arith
-
-  array-write-next : walk-lts.Need-array-write-next (claims t) (walk-at t) walk.Post Inv-loop μ-loop
-  array-write-next c = omega arith
+  with-owner-requires : walk-lts.Need-with-owner-requires (claims t) (walk-at t) walk.Post Inv-loop μ-loop
+  with-owner-requires c κs = (omega arith, omega arith)
 
   sub-walk : walk-lts.Need-sub-walk (claims t) (walk-at t) walk.Post Inv-loop μ-loop
   sub-walk c = omega arith
@@ -90,11 +88,12 @@ module _ (t : ℕ) where
 
   loop-again : walk-lts.Need-loop-again (claims t) (walk-at t) walk.Post Inv-loop μ-loop
   loop-again c =
-      let l = c .before .before in
+      let w = c .before in
+      let l = w .before .before in
       let z = l .before .before .args in (
         omega arith,
         λ n. walk-step (z .buyers) (z .worths .now) n (z .owners) (z .lots - z .left) (z .lots - (z .left - 1)) (l .loop .o) (z .left - 1) _ _ _
-            (c .before .loop-test .taken) (omega arith) (omega arith) (l .loop .inv .1 n) (c .walk .ensures n),
+            (w .before .loop-test .taken) (omega arith) (omega arith) (l .loop .inv .1 n) (rw (w .with-owner .ensures) at (c .walk .ensures n)),
       )
 
   returns-2 : walk-lts.Need-returns-2 (claims t) (walk-at t) walk.Post Inv-loop μ-loop
@@ -118,8 +117,7 @@ pub +walk-spec : {M : Type 1} → statement M
     (returns t)
     (sub-lot t)
     (loop-holds t)
-    (mul-next t)
-    (array-write-next t)
+    (with-owner-requires t)
     (sub-walk t)
     (walk-requires t)
     (add-o t)

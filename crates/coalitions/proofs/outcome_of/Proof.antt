@@ -15,8 +15,8 @@ abbrev μ-loop : tie.MeasureT-loop
 loop-holds : tie.Need-loop-holds Inv-loop μ-loop
 loop-holds c = nobody (c .args .buyers) (c .args .worths .now) (take (c .args .lots) (c .args .owners))
 
-bundle-requires : tie.Need-bundle-requires Inv-loop μ-loop
-bundle-requires c κs = omega arith
+bundle-of-requires : tie.Need-bundle-of-requires Inv-loop μ-loop
+bundle-of-requires c κs = omega arith
 
 mul-set : tie.Need-mul-set Inv-loop μ-loop
 mul-set c = omega (arith, partly-few {m = c .before .before .before .args .buyers} (omega arith) (c .before .before .loop .inv))
@@ -56,7 +56,7 @@ loop-less c = omega arith
 loop-again : tie.Need-loop-again Inv-loop μ-loop
 loop-again c =
     let l = c .before .before .before in
-    let e = c .before .bundle .ensures .0 in
+    let e = c .before .bundle-of .ensures .is in
     ⊎-elim
     (λ w. holds-one (l .loop .inv) (omega arith) _ e (w .0 .taken) _ _ _ (w .2 .ensures .is) (w .2 .ensures .most) (w .3) (w .4))
     (λ w. holds-none (l .loop .inv) (omega arith) _ e (w .0 .left) _ _ (w .1) (w .2))
@@ -72,7 +72,7 @@ outcome-of-spec =
     Inv-loop
     μ-loop
     loop-holds
-    bundle-requires
+    bundle-of-requires
     mul-set
     sub-at
     mul-at
