@@ -84,7 +84,7 @@ returns-2 : tie.Need-returns-2 Inv-loop μ-loop
 returns-2 c =
     let i = c .before .before .before .before in
     zero-faults (sheet i) (at i) (k i) (at i + 6) (v i) (whole (sheet i) (at i)) (short i) (room i) (f i) (i .before .loop .inv .4)
-    (not-true _ (c .before .if2 .taken)) (c .if3 .taken) (c .before .before .match .keys2)
+    (not-true _ (c .before .if2 .taken)) (omega (arith, c .if3 .taken)) (c .before .before .match .keys2)
 
 mul-value : tie.Need-mul-value Inv-loop μ-loop
 mul-value c = omega (arith, small (c .before .before .before))

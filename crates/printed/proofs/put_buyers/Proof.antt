@@ -85,10 +85,12 @@ put-line-requires c κs =
     let t = p .before .before in
     let a = t .before in
     let s = a .before .before in
-    let more = t .loop-test .taken in (
+    let more = t .loop-test .taken in
+    let discount = s .pre .3 (a .loop .i) in
+    let payment = s .pre .4 (a .loop .i) in (
       omega arith,
       simp (length-take, length-drop) (omega (arith, long a, s .pre .2)),
-      four-small 1000000 _ _ _ _ (omega (arith, s .pre .0)) (omega (arith, p .price-of .ensures .most)) (s .pre .3 (a .loop .i)) (s .pre .4 (a .loop .i)),
+      four-small 1000000 _ _ _ _ (omega (arith, s .pre .0)) (omega (arith, p .price-of .ensures .most)) (omega arith) (omega arith),
     )
 
 add-i : tie.Need-add-i Inv-loop μ-loop
