@@ -2,10 +2,12 @@
 
 #![deny(unsafe_code)]
 
-pub mod command;
 pub mod generator;
+pub mod halves;
 #[allow(unsafe_code)]
 pub mod library;
+pub mod process;
+pub mod program;
 pub mod reckoning;
 pub mod sales;
 pub mod sheets;

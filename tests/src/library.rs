@@ -71,8 +71,8 @@ pub struct Direct {
 }
 
 // SAFETY: a slice crosses as pointer and length, an array as a pointer, an answer as the `repr(C)`
-// struct above. The entries are proved to answer every sheet, column, buyer and record, reading
-// what is lent alone and writing in the lent record alone.
+// struct above. The entries are proved to answer every sheet, column, buyer, record and buffer,
+// reading what is lent alone and writing in the lent record and buffer alone.
 #[allow(improper_ctypes)]
 unsafe extern "C" {
     safe fn hokewhuni_read_sheet(sheet: &[u8]) -> Read;
@@ -81,6 +81,7 @@ unsafe extern "C" {
     safe fn hokewhuni_buyer_demand(sheet: &[u8], buyer: u32, prices: &[u16; 96]) -> Demand;
     safe fn hokewhuni_run_sale(sheet: &[u8], record: &mut [u8]) -> Sale;
     safe fn hokewhuni_direct_way(sheet: &[u8]) -> Direct;
+    safe fn hokewhuni_print_sale(sheet: &[u8], record: &mut [u8], out: &mut [u8]) -> usize;
 }
 
 /// The library's answer to questions 1 to 8.
@@ -111,4 +112,10 @@ pub fn run_sale(sheet: &[u8], record: &mut [u8]) -> Sale {
 /// The library's answer by the direct way, which uses no prices.
 pub fn direct_way(sheet: &[u8]) -> Direct {
     hokewhuni_direct_way(sheet)
+}
+
+/// The library's sale of a sheet, printed in a buffer: the length of what is printed, or 0 where it
+/// has no room. The rounds are written in the record.
+pub fn print_sale(sheet: &[u8], record: &mut [u8], out: &mut [u8]) -> usize {
+    hokewhuni_print_sale(sheet, record, out)
 }

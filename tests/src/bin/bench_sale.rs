@@ -9,6 +9,7 @@ use std::process::ExitCode;
 use std::time::{Duration, Instant};
 
 use comparison::generator::{bytes_of, Generator};
+use comparison::halves::conclude;
 use comparison::library;
 use comparison::reckoning::sale::{record_needed, run_sale};
 use comparison::tally::Tally;
@@ -70,10 +71,5 @@ fn compare(count: usize) -> ExitCode {
         let record = generator.bytes(record_needed(&sheet));
         tally.sale(&bytes_of(&sheet), &record);
     }
-    print!("{}", tally.report());
-    println!("{} passed, {} failed", tally.passed(), tally.failed());
-    match tally.failed() {
-        0 => ExitCode::SUCCESS,
-        _ => ExitCode::FAILURE,
-    }
+    conclude(&[tally])
 }

@@ -3,6 +3,7 @@
 pub mod allocation;
 pub mod demand;
 pub mod direct;
+pub mod print;
 pub mod round;
 pub mod sale;
 pub mod sheet;

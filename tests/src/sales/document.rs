@@ -11,17 +11,18 @@ use crate::tally::{Tally, Told};
 pub const TABLE_3: &str =
     "     3     2\n     3     0     3\n     0     6     6\n     0     2     4\n";
 
-/// A settled sale: its sheet, question 9's sum, the bytes recorded, the direct way's T, and the
-/// closing of lots 1, 2, .. and buyers 1, 2, ...
+/// A settled sale: its sheet, question 9's sum, the bytes recorded, the direct way's T, the closing
+/// of lots 1, 2, .. and buyers 1, 2, .., and what is printed.
 pub struct Settled {
     pub text: &'static str,
-    record_needed: usize,
+    pub record_needed: usize,
     recorded: &'static [u8],
     total: u32,
     owners: &'static [u8],
     charges: &'static [u32],
     discounts: &'static [u32],
     payments: &'static [u32],
+    pub printed: &'static str,
 }
 
 pub const SETTLED: [Settled; 8] = [
@@ -35,6 +36,13 @@ pub const SETTLED: [Settled; 8] = [
         charges: &[2, 0],
         discounts: &[0, 0],
         payments: &[2, 0],
+        printed: concat!(
+            "     0     2     2     2\n",
+            "     1     1\n",
+            "     2     2\n",
+            "     1     2     0     2\n",
+            "     2     0     0     0\n",
+        ),
     },
     // Table 3. Charging the last prices takes 2 and 4 instead of 0 and 2; stopping when all buyers
     // together are supplied takes other payments.
@@ -47,6 +55,14 @@ pub const SETTLED: [Settled; 8] = [
         charges: &[2, 4, 0],
         discounts: &[2, 2, 0],
         payments: &[0, 2, 0],
+        printed: concat!(
+            "     0     3     2     9\n",
+            "     1     1\n",
+            "     2     2\n",
+            "     1     2     2     0\n",
+            "     2     4     2     2\n",
+            "     3     0     0     0\n",
+        ),
     },
     // Reckoned by hand, for the economies that lack only a loser: buyers 2 and 3 lose, and leaving
     // out the economy without buyer 2 records 3 5.
@@ -59,6 +75,14 @@ pub const SETTLED: [Settled; 8] = [
         charges: &[2, 0, 0],
         discounts: &[0, 0, 0],
         payments: &[2, 0, 0],
+        printed: concat!(
+            "     0     3     2     3\n",
+            "     1     1\n",
+            "     2     1\n",
+            "     1     2     0     2\n",
+            "     2     0     0     0\n",
+            "     3     0     0     0\n",
+        ),
     },
     // One lot, worths 5 and 3.
     Settled {
@@ -70,6 +94,12 @@ pub const SETTLED: [Settled; 8] = [
         charges: &[3, 0],
         discounts: &[0, 0],
         payments: &[3, 0],
+        printed: concat!(
+            "     0     2     1     3\n",
+            "     1     1\n",
+            "     1     3     0     3\n",
+            "     2     0     0     0\n",
+        ),
     },
     // One lot, worths 4 and 4: four rounds.
     Settled {
@@ -81,6 +111,12 @@ pub const SETTLED: [Settled; 8] = [
         charges: &[4, 0],
         discounts: &[0, 0],
         payments: &[4, 0],
+        printed: concat!(
+            "     0     2     1     4\n",
+            "     1     1\n",
+            "     1     4     0     4\n",
+            "     2     0     0     0\n",
+        ),
     },
     // One buyer, one lot, worth 7: no round, and the record must still have 7 bytes.
     Settled {
@@ -92,6 +128,11 @@ pub const SETTLED: [Settled; 8] = [
         charges: &[0],
         discounts: &[0],
         payments: &[0],
+        printed: concat!(
+            "     0     1     1     0\n",
+            "     1     1\n",
+            "     1     0     0     0\n",
+        ),
     },
     // One lot, two worths of 0: no round. A buyer with payoff 0 is not keen.
     Settled {
@@ -103,6 +144,12 @@ pub const SETTLED: [Settled; 8] = [
         charges: &[0, 0],
         discounts: &[0, 0],
         payments: &[0, 0],
+        printed: concat!(
+            "     0     2     1     0\n",
+            "     1     0\n",
+            "     1     0     0     0\n",
+            "     2     0     0     0\n",
+        ),
     },
     // Worth 9,999 passes.
     Settled {
@@ -114,6 +161,11 @@ pub const SETTLED: [Settled; 8] = [
         charges: &[0],
         discounts: &[0],
         payments: &[0],
+        printed: concat!(
+            "     0     1     1     0\n",
+            "     1     1\n",
+            "     1     0     0     0\n",
+        ),
     },
 ];
 

@@ -1,5 +1,5 @@
-//! The comparisons of the library's sales, demand answers and direct way with the Rust reckoning,
-//! group by group.
+//! The comparisons of the library's sales, printed sales, demand answers and direct way with the
+//! Rust reckoning, group by group.
 
 use crate::generator::Generator;
 use crate::tally::Tally;
@@ -9,12 +9,13 @@ mod direct;
 mod document;
 mod full;
 mod gains;
-mod random;
+mod prints;
+pub(crate) mod random;
 mod records;
-mod refusals;
+pub(crate) mod refusals;
 mod tables;
 
-/// Runs the groups of sales and demand answers.
+/// Runs the groups of sales, printed sales and demand answers.
 pub fn compare(tally: &mut Tally, generator: &mut Generator) {
     document::compare(tally);
     tables::compare(tally, generator);
@@ -23,6 +24,7 @@ pub fn compare(tally: &mut Tally, generator: &mut Generator) {
     refusals::compare(tally, generator);
     demands::compare(tally, generator);
     full::compare(tally, generator);
+    prints::compare(tally, generator);
 }
 
 /// Runs the groups of the direct way, and the search for a gain. They take about as long as all

@@ -11,7 +11,7 @@ const TOPS: [u16; 3] = [3, 6, 12];
 const DRAWN: usize = 300;
 
 /// Buyers, lots and the greatest worth of sheets whose sales stay short enough.
-const LARGE: [(usize, usize, u16); 8] = [
+pub const LARGE: [(usize, usize, u16); 8] = [
     (1, 4, 9_999),
     (2, 1, 9_999),
     (3, 1, 9_999),

@@ -1,5 +1,5 @@
-//! The tally of comparisons between the library and the Rust reckoning, and the report of their
-//! differences.
+//! The tally of comparisons between the library, or a process, and the Rust reckoning, and the
+//! report of their differences.
 
 use std::fmt::{Debug, Display};
 
@@ -8,6 +8,9 @@ use crate::library::{self, FieldAnswer, Read, Worths};
 use crate::reckoning::sheet::{read_field, read_sheet, Answer, Field, FIELD, FIRST_LINE};
 
 mod direct;
+mod lent;
+mod prints;
+mod processes;
 mod sales;
 
 pub use direct::Pair;
@@ -120,6 +123,11 @@ impl Tally {
     }
 
     fn count(&mut self, sheet: &[u8], differences: &[String]) {
+        let sheet = sheet.escape_ascii();
+        self.count_of(format_args!("the sheet \"{sheet}\""), differences);
+    }
+
+    fn count_of(&mut self, what: impl Display, differences: &[String]) {
         if differences.is_empty() {
             self.passed += 1;
             return;
@@ -127,8 +135,7 @@ impl Tally {
         self.failed += 1;
         for difference in differences.iter().take(SHOWN - self.shown) {
             self.shown += 1;
-            let sheet = sheet.escape_ascii();
-            self.report += &format!("difference in the sheet \"{sheet}\"\n{difference}\n");
+            self.report += &format!("difference in {what}\n{difference}\n");
         }
     }
 }
@@ -148,6 +155,18 @@ fn difference<T: Debug + PartialEq>(
     (other, second): (&str, &T),
 ) -> Option<String> {
     (first != second).then(|| format!("  {what}\n    {one}: {first:?}\n    {other}: {second:?}"))
+}
+
+/// What is printed of two named texts, if they differ.
+fn text_difference(
+    what: impl Display,
+    (one, first): (&str, &[u8]),
+    (other, second): (&str, &[u8]),
+) -> Option<String> {
+    (first != second).then(|| {
+        let (first, second) = (first.escape_ascii(), second.escape_ascii());
+        format!("  {what}\n    {one}: \"{first}\"\n    {other}: \"{second}\"")
+    })
 }
 
 /// The Rust reader's answer in the library's form: a refusal "returns its number and place, every

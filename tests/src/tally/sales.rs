@@ -1,19 +1,13 @@
 //! The comparison of demand answers, of sales and of their records.
 
 use super::direct::direct_difference;
+use super::lent::{inside, lent_difference, within_margins};
 use super::{difference, Tally};
 use crate::library;
 use crate::reckoning::demand::{buyer_demand, Demand, Prices};
 use crate::reckoning::direct::direct_way;
 use crate::reckoning::sale::{run_sale, Closing, Sale};
 use crate::reckoning::sheet::Refusal;
-
-/// A record is lent out of the middle of a longer one, and the bytes on either side are compared
-/// with it.
-const MARGIN: [u8; 8] = [0xa5; 8];
-
-/// The most bytes that are printed of records that differ.
-const SHOWN: usize = 12;
 
 /// What a settled sale comes to: the bytes recorded, one for each round, and the closing.
 #[derive(Clone, Debug, PartialEq, Eq)]
@@ -79,7 +73,7 @@ fn compare_demand(
 /// way and from what holds of every sale.
 fn compare_sale(sheet: &[u8], record: &[u8]) -> (Result<Told, Refusal>, Vec<String>) {
     let mut lent = within_margins(record);
-    let answer = library::run_sale(sheet, &mut lent[MARGIN.len()..][..record.len()]);
+    let answer = library::run_sale(sheet, inside(&mut lent));
     let mut reckoned = record.to_vec();
     let sale = run_sale(sheet, &mut reckoned);
     let mut differences = Vec::new();
@@ -88,7 +82,7 @@ fn compare_sale(sheet: &[u8], record: &[u8]) -> (Result<Told, Refusal>, Vec<Stri
         ("library", &answer),
         ("Rust", &sale_of(&sale)),
     ));
-    differences.extend(record_difference(&lent, &within_margins(&reckoned)));
+    differences.extend(lent_difference("record", &lent, &within_margins(&reckoned)));
     let direct = library::direct_way(sheet);
     differences.extend(direct_difference(&direct, &direct_way(sheet)));
     differences.extend(unlike(&answer, &direct));
@@ -100,22 +94,6 @@ fn compare_sale(sheet: &[u8], record: &[u8]) -> (Result<Told, Refusal>, Vec<Stri
         closing: sale.closing,
     });
     (told, differences)
-}
-
-fn within_margins(record: &[u8]) -> Vec<u8> {
-    [&MARGIN, record, &MARGIN].concat()
-}
-
-/// What is printed of two records within their margins, from the first byte in which they differ.
-fn record_difference(library: &[u8], rust: &[u8]) -> Option<String> {
-    let at = (0..rust.len()).find(|&at| library[at] != rust[at])?;
-    let shown = |record: &[u8]| record.iter().skip(at).take(SHOWN).copied().collect();
-    let (library, rust): (Vec<u8>, Vec<u8>) = (shown(library), shown(rust));
-    difference(
-        format_args!("record from byte {}", at as isize - MARGIN.len() as isize),
-        ("library", &library),
-        ("Rust", &rust),
-    )
 }
 
 /// What is printed of a settled sale that breaks this: "the sale's owners and payments, place for

@@ -1,0 +1,61 @@
+//! The example sheets, with the printed sales that stand beside them.
+
+use std::fs::{self, File};
+use std::io;
+use std::path::{Path, PathBuf};
+
+use super::{in_repository, program};
+use crate::process::run_from;
+use crate::reckoning::print::print_sale;
+use crate::tally::Tally;
+
+/// There are at least this many: the sales of document 01.
+const LEAST: usize = 16;
+
+/// A sheet and its printed sale.
+pub struct Example {
+    pub path: PathBuf,
+    pub sheet: Vec<u8>,
+    pub sale: Vec<u8>,
+}
+
+pub fn compare(tally: &mut Tally) {
+    tally.group("examples", |tally| {
+        for Example { path, sheet, sale } in tally.succeeds("the examples", examples()) {
+            let name = path.display();
+            let run = || run_from(&mut program(), File::open(&path)?);
+            tally.process(format_args!("the program, given {name}"), run, &sale);
+            let reckoned = print_sale(&sheet);
+            tally.text(format_args!("the Rust print of {name}"), &reckoned, &sale);
+        }
+    });
+}
+
+/// The examples in the order of their names, or what is wrong with them.
+pub fn examples() -> Result<Vec<Example>, String> {
+    let folder = in_repository("examples");
+    let mut paths = Vec::new();
+    for entry in fs::read_dir(&folder).map_err(|error| told(&folder, &error))? {
+        paths.push(entry.map_err(|error| told(&folder, &error))?.path());
+    }
+    paths.retain(|path| path.extension().is_some_and(|ending| ending == "sheet"));
+    paths.sort();
+    if paths.len() < LEAST {
+        let found = paths.len();
+        return Err(format!("{found} sheets where {LEAST} are the least"));
+    }
+    paths.into_iter().map(example).collect()
+}
+
+fn example(path: PathBuf) -> Result<Example, String> {
+    let read = |path: &Path| fs::read(path).map_err(|error| told(path, &error));
+    Ok(Example {
+        sheet: read(&path)?,
+        sale: read(&path.with_extension("sale"))?,
+        path,
+    })
+}
+
+fn told(path: &Path, error: &io::Error) -> String {
+    format!("{}: {error}", path.display())
+}

@@ -1,0 +1,84 @@
+//! The C header: a C program prints every number of every answer, and the declarations in
+//! `library` have to give the same.
+
+use std::fmt::Display;
+use std::process::Command;
+
+use super::compiling::compile;
+use super::inputs::KINDS;
+use crate::generator::Generator;
+use crate::library;
+use crate::process::run;
+use crate::reckoning::print::{print_sale, LONGEST_RECORD, MOST_READ};
+use crate::reckoning::sheet::FIRST_LINE;
+use crate::tally::Tally;
+
+/// Inputs drawn of each kind.
+const DRAWN: usize = 10;
+
+/// The buyer asked about.
+const BUYER: u32 = 2;
+
+/// A printed sale has at most a line of four fields, four of two, and six of four.
+const LONGEST_PRINT: usize = 25 + 4 * 13 + 6 * 25;
+
+pub fn compare(tally: &mut Tally, generator: &mut Generator) {
+    tally.group("the C header", |tally| {
+        let compiled = compile("tests/header.c").map(Some);
+        let Some(header) = tally.succeeds("tests/header.c", compiled) else {
+            return;
+        };
+        for (_, draw) in KINDS {
+            for _ in 0..DRAWN {
+                let mut input = draw(generator);
+                input.truncate(MOST_READ);
+                let what = format_args!("header, given \"{}\"", input.escape_ascii());
+                let run = || run(&mut Command::new(&header), &input);
+                tally.process(what, run, &answers(&input));
+            }
+        }
+    });
+}
+
+/// The constants, and every number of each entry's answer, a line for each; then the recorded sets
+/// and the print.
+fn answers(sheet: &[u8]) -> Vec<u8> {
+    let field = library::read_field(sheet, FIRST_LINE);
+    let read = library::read_sheet(sheet);
+    let worths = library::read_worths(sheet);
+    let mut record = vec![0; LONGEST_RECORD];
+    let sale = library::run_sale(sheet, &mut record);
+    let direct = library::direct_way(sheet);
+    let size = |number: u8, place: u32, buyers: u8, lots: u8| {
+        each(&[number.into(), place, buyers.into(), lots.into()])
+    };
+    let lines = [
+        each(&[MOST_READ, LONGEST_RECORD, LONGEST_PRINT]),
+        each(&[field.next, field.number.into(), field.value]),
+        size(read.number, read.place, read.buyers, read.lots),
+        size(worths.number, worths.place, worths.buyers, worths.lots) + &each(&worths.worths),
+        size(sale.number, sale.place, sale.buyers, sale.lots) + &each(&[sale.rounds]),
+        each(&sale.prices),
+        each(&sale.owners) + &each(&sale.discounts) + &each(&sale.payments),
+        demand(sheet, &[0; 96]),
+        demand(sheet, &sale.prices),
+        each(&[direct.number.into(), direct.place, direct.total]),
+        each(&direct.owners) + &each(&direct.payments),
+        each(&record[..sale.rounds as usize]),
+    ];
+    let mut text = lines.map(|line| line + "\n").concat().into_bytes();
+    text.extend(print_sale(sheet));
+    text
+}
+
+/// What the buyer demands at these prices.
+fn demand(sheet: &[u8], prices: &[u16; 96]) -> String {
+    let demand = library::buyer_demand(sheet, BUYER, prices);
+    let (bundles, keen) = (demand.bundles.into(), demand.keen.into());
+    each(&[demand.number.into(), demand.place, bundles, keen])
+}
+
+/// The numbers, a blank before each.
+fn each(numbers: &[impl Display]) -> String {
+    numbers.iter().map(|number| format!(" {number}")).collect()
+}

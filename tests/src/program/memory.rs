@@ -1,0 +1,43 @@
+//! The program under valgrind, which finds reading and writing where nothing is lent.
+
+use std::process::Command;
+
+use super::inputs::{KINDS, LONGEST};
+use super::program_path;
+use crate::generator::{bytes_of, Generator};
+use crate::process::run;
+use crate::reckoning::print::print_sale;
+use crate::tally::Tally;
+
+/// Buyers and lots of settled sheets: the least and the most of each, and one between.
+const SIZES: [(usize, usize); 5] = [(1, 1), (1, 4), (6, 1), (6, 4), (3, 2)];
+
+/// The greatest worth of these.
+const TOP: u16 = 12;
+
+pub fn compare(tally: &mut Tally, generator: &mut Generator) {
+    tally.group("inputs under valgrind", |tally| {
+        print(tally, b"");
+        print(tally, &[b' '; LONGEST]);
+        for (buyers, lots) in SIZES {
+            let sheet = generator.monotone_up_to(buyers, lots, TOP);
+            print(tally, &bytes_of(&sheet));
+        }
+        for (_, draw) in KINDS {
+            print(tally, &draw(generator));
+        }
+    });
+}
+
+fn print(tally: &mut Tally, input: &[u8]) {
+    let what = format_args!("valgrind, given \"{}\"", input.escape_ascii());
+    let run = || run(valgrind().arg(program_path()), input);
+    tally.process(what, run, &print_sale(input));
+}
+
+/// The command before the program's path. It says nothing but errors, and has status 9 with one.
+pub fn valgrind() -> Command {
+    let mut command = Command::new("valgrind");
+    command.args(["--error-exitcode=9", "--quiet"]);
+    command
+}

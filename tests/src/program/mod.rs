@@ -1,0 +1,50 @@
+//! The tests of the program that prints a sale, as a process; and of the C header and example,
+//! which are compiled for it.
+
+use std::env;
+use std::path::{Path, PathBuf};
+use std::process::Command;
+
+use crate::generator::Generator;
+use crate::tally::Tally;
+
+mod compiling;
+mod examples;
+mod header;
+mod inputs;
+mod memory;
+mod office;
+mod pieces;
+mod streams;
+
+/// Runs the groups of random inputs.
+pub fn compare_inputs(tally: &mut Tally, generator: &mut Generator) {
+    inputs::compare(tally, generator);
+    pieces::compare(tally, generator);
+}
+
+/// Runs all other groups.
+pub fn compare(tally: &mut Tally, generator: &mut Generator) {
+    examples::compare(tally);
+    streams::compare(tally);
+    office::compare(tally);
+    header::compare(tally, generator);
+    memory::compare(tally, generator);
+}
+
+/// A path in the repository.
+fn in_repository(path: &str) -> PathBuf {
+    Path::new(env!("CARGO_MANIFEST_DIR")).join("..").join(path)
+}
+
+/// The program. HOKEWHUNI_SALE names another.
+fn program_path() -> PathBuf {
+    match env::var_os("HOKEWHUNI_SALE") {
+        Some(path) => path.into(),
+        None => in_repository("target/bin/sale_main"),
+    }
+}
+
+fn program() -> Command {
+    Command::new(program_path())
+}

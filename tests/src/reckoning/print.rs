@@ -1,0 +1,55 @@
+//! The printed sale. Written from document 01 alone; the comments quote the sentences that are met.
+
+use super::sale::{run_sale, Sale};
+use super::sheet::{Refusal, GREATEST_WORTH, LINE_END, MOST_BUYERS};
+
+/// "The program reads up to 560 bytes of standard input as the sheet."
+pub const MOST_READ: usize = 560;
+
+/// The greatest of question 9's sums: six buyers, each with the greatest worth for all lots
+/// together.
+pub const LONGEST_RECORD: usize = MOST_BUYERS * GREATEST_WORTH as usize;
+
+/// What the program prints of its input. Its record is long enough for every sheet.
+pub fn print_sale(input: &[u8]) -> Vec<u8> {
+    let sheet = &input[..input.len().min(MOST_READ)];
+    printed(&run_sale(sheet, &mut vec![0; LONGEST_RECORD]))
+}
+
+/// What is printed of a sale.
+pub fn printed(sale: &Result<Sale, Refusal>) -> Vec<u8> {
+    match sale {
+        Ok(sale) => settled(sale),
+        Err(refusal) => refused(refusal),
+    }
+}
+
+/// "Settled: first a line of 0, buyers, lots, rounds; a line per lot of lot and owner; a line per
+/// buyer of buyer, price of its bundle, discount, payment."
+fn settled(sale: &Sale) -> Vec<u8> {
+    let closing = &sale.closing;
+    let mut lines = vec![line(&[0, sale.buyers, sale.lots, sale.rounds])];
+    for lot in 1..=sale.lots {
+        lines.push(line(&[lot, closing.owners[lot - 1].into()]));
+    }
+    for buyer in 1..=sale.buyers {
+        let amounts = [&closing.charges, &closing.discounts, &closing.payments];
+        let [charge, discount, payment] = amounts.map(|amount| amount[buyer - 1] as usize);
+        lines.push(line(&[buyer, charge, discount, payment]));
+    }
+    lines.concat()
+}
+
+/// "Refused: one line of number and place."
+fn refused(refusal: &Refusal) -> Vec<u8> {
+    line(&[refusal.number.into(), refusal.place])
+}
+
+/// "It prints fields of six columns." "A number right-justified after blanks", and "every line ends
+/// with byte 10".
+fn line(numbers: &[usize]) -> Vec<u8> {
+    let fields = numbers.iter().map(|number| format!("{number:>6}"));
+    let mut line = fields.collect::<String>().into_bytes();
+    line.push(LINE_END);
+    line
+}
