@@ -2,7 +2,7 @@
  * of them, a demand answer, and last the printed sale. The sheet is the file named, or standard
  * input if none is:
  *
- *     cc -std=c11 -Iinclude examples/office.c target/staticlib/libboundary.a -o office
+ *     cc -std=c11 -Iinclude examples/office.c target/staticlib/libhokewhuni.a -o office
  *     ./office examples/example.sheet
  */
 #include <stdio.h>

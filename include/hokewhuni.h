@@ -1,6 +1,6 @@
 /* Lot sheets and their ascending sale, for C and C++ on x86-64:
  *
- *     cc -std=c11 -Iinclude examples/office.c target/staticlib/libboundary.a -o office
+ *     cc -std=c11 -Iinclude examples/office.c target/staticlib/libhokewhuni.a -o office
  *
  * A sheet is any bytes. Its numbers of buyers and lots are called m and n below; a bundle's number
  * is the sum of 2^(j - 1) over its lots j, and 0 is the empty bundle. A table has 96 entries: that

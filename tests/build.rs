@@ -1,4 +1,4 @@
-//! Links the proved library, which `rt staticlib boundary` builds. HOKEWHUNI_LIB names another
+//! Links the proved library, which `rt staticlib hokewhuni` builds. HOKEWHUNI_LIB names another
 //! folder to take it from, as an absolute path.
 
 use std::env;
@@ -12,8 +12,8 @@ fn main() {
     println!("cargo::rerun-if-env-changed=HOKEWHUNI_LIB");
     println!(
         "cargo::rerun-if-changed={}",
-        folder.join("libboundary.a").display()
+        folder.join("libhokewhuni.a").display()
     );
     println!("cargo::rustc-link-search=native={}", folder.display());
-    println!("cargo::rustc-link-lib=static=boundary");
+    println!("cargo::rustc-link-lib=static=hokewhuni");
 }

@@ -103,7 +103,7 @@ module _ {A : Type 0} {M : Market A} {S : Seats} {bits all top : ℕ} {v : Table
   column : (j s : ℕ) → 0 + (16 * j + s) - 16 * j ≡ s
   column j s = omega arith
 
-  raised-price : (set : ℕ → Bool) (ps : List ℕ) (i s : ℕ) → Bidder M i → 1 ≤ s → s < all →
+  pub raised-price : (set : ℕ → Bool) (ps : List ℕ) (i s : ℕ) → Bidder M i → 1 ≤ s → s < all →
       price S (raised S all v set ps) i s ≡ price S ps i s + when (set i && quote S all v ps .wants i s) 1
   raised-price set ps i s r l h =
       let (j, t, back) = priced .seated .sits i r in

@@ -119,6 +119,9 @@ module _ (b : List ℕ) (accepted : sheetFault b .number ≡ 0) where
       let f = least-of (market w) (quote w ps) (X .economies) (X .member) (X .sets) set e in
       (f .passes, λ other l. f .before other (omega arith) l)
 
+  pub lowest-below : (ps : List ℕ) (set : ℕ) → lowest w ps ≡ suc set → set < 2 ^ w .buyers
+  lowest-below ps set e = omega (arith, least-of (market w) (quote w ps) (X .economies) (X .member) (X .sets) set e .among)
+
   -- and minimal (definition 11)
   pub lowest-minimal : (ps : List ℕ) (set : ℕ) → lowest w ps ≡ suc set → Minimal (market w) (quote w ps) (X .economies) (member set)
   lowest-minimal ps set e = minimal-of (market w) (quote w ps) (X .economies) (X .member) (X .sets) (hall b accepted .ranked) set e
@@ -149,6 +152,7 @@ module _ (b : List ℕ) (accepted : sheetFault b .number ≡ 0) where
         lowest-set = second .each;
         least-set = λ k l. lowest-least (pricesAfter w k) (setAt w k) (second .each k l);
         minimal-set = λ k l. second .minimal k l .0;
+        set-below = λ k l. lowest-below (pricesAfter w k) (setAt w k) (second .each k l);
         not-empty = λ k l. second .minimal k l .1;
         from-zeros = refl;
         replay = λ k l. after-one (raised w) (startPrices w) (saleSets w) k l;

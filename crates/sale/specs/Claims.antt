@@ -2,12 +2,12 @@
 -- them), at every round (`AtRound`), and demand 2 as one record.
 use mathlib.Core.Path.{_≡_}
 use mathlib.Core.Logic.{_≢_, _↔_}
-use mathlib.Core.Bool.{true, false}
+use mathlib.Core.Bool.{true, false, _&&_}
 use mathlib.Core.List.{List}
 use Prim.Native.Nat.{ℕ, suc, _+_, _-_, _*_, _^_, _≤_, _<_}
 use lib.Dec.{eqb}
 use lib.ListN.{length, getD}
-use Rattle.theory.specs.Sums.{Among}
+use Rattle.theory.specs.Sums.{Among, when}
 use Rattle.theory.specs.Lists.{_∈_, Ordered, sumOver}
 use Rattle.theory.specs.Markets.{sumOf, total}
 use Rattle.theory.specs.Auction.{Minimal, size}
@@ -65,7 +65,11 @@ module _ (w : Sheet) where
     pub demand-means : (i s : ℕ) → Among (w .buyers) 1 i → s < 2 ^ w .lots →
         (bit s (demandSet w ps i) ≡ true) ↔ ((t : ℕ) → t < 2 ^ w .lots → worthOf w i t + priceAt w ps i s ≤ worthOf w i s + priceAt w ps i t)
     pub demand-below : (i : ℕ) → demandSet w ps i < 2 ^ (2 ^ w .lots)
+    pub demand-some : (i : ℕ) → Among (w .buyers) 1 i → (s : ℕ) × (s < 2 ^ w .lots) × (bit s (demandSet w ps i) ≡ true)
     pub keen-means : (i : ℕ) → Among (w .buyers) 1 i → (isKeen w ps i ≡ true) ↔ ((s : ℕ) × (s < 2 ^ w .lots) × (priceAt w ps i s < worthOf w i s))
+    -- a round raises the prices of the set's members for the bundles that they demand, and no others, by 1
+    pub raised-price : (set i s : ℕ) → Among (w .buyers) 1 i → 1 ≤ s → s < 2 ^ w .lots →
+        priceAt w (raised w set ps) i s ≡ priceAt w ps i s + when (member set i && bit s (demandSet w ps i)) 1
     -- no set, the empty one included, is undersupplied exactly if the prices are a UCE
     pub settled-iff-uce : (lowest w ps ≡ 0) ↔ UCE ps
     -- the lowest undersupplied set is the least, and minimal (definition 11)
@@ -98,11 +102,12 @@ module _ (w : Sheet) where
     -- the last prices are a UCE, and no earlier ones are
     pub last-uce : UCE (lastPrices w)
     pub none-earlier : (k : ℕ) → k < length (saleSets w) → UCE (pricesAfter w k) → ⊥
-    -- each recorded set is the lowest undersupplied one at its prices, minimal by definition 11, and has a member
+    -- each recorded set is the lowest undersupplied one at its prices, minimal by definition 11, one of the buyers there are, and has a member
     pub lowest-set : (k : ℕ) → k < length (saleSets w) → lowest w (pricesAfter w k) ≡ suc (setAt k)
     pub least-set : (k : ℕ) → k < length (saleSets w) →
         (undersupplied w (pricesAfter w k) (setAt k) ≡ true) × ((set : ℕ) → set < setAt k → undersupplied w (pricesAfter w k) set ≡ false)
     pub minimal-set : (k : ℕ) → k < length (saleSets w) → Minimal (market w) (quote w (pricesAfter w k)) (theAuction w .economies) (member (setAt k))
+    pub set-below : (k : ℕ) → k < length (saleSets w) → setAt k < 2 ^ w .buyers
     pub not-empty : (k : ℕ) → k < length (saleSets w) → (i : ℕ) × Among (w .buyers) 1 i × (member (setAt k) i ≡ true)
     -- from the zeros on, round by round, the recorded sets give the prices
     pub from-zeros : pricesAfter w 0 ≡ startPrices w

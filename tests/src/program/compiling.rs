@@ -38,5 +38,5 @@ fn library() -> PathBuf {
         Some(folder) => PathBuf::from(folder),
         None => in_repository("target/staticlib"),
     };
-    folder.join("libboundary.a")
+    folder.join("libhokewhuni.a")
 }

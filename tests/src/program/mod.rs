@@ -1,5 +1,5 @@
-//! The tests of the program that prints a sale, as a process; and of the C header and example,
-//! which are compiled for it.
+//! The tests of the program that prints a sale, as a process; of the C header and example, which
+//! are compiled for it; and of the teacher's page.
 
 use std::env;
 use std::path::{Path, PathBuf};
@@ -16,6 +16,7 @@ mod memory;
 mod office;
 mod pieces;
 mod streams;
+mod teacher;
 
 /// Runs the groups of random inputs.
 pub fn compare_inputs(tally: &mut Tally, generator: &mut Generator) {
@@ -26,6 +27,7 @@ pub fn compare_inputs(tally: &mut Tally, generator: &mut Generator) {
 /// Runs all other groups.
 pub fn compare(tally: &mut Tally, generator: &mut Generator) {
     examples::compare(tally);
+    teacher::compare(tally);
     streams::compare(tally);
     office::compare(tally);
     header::compare(tally, generator);

@@ -4,7 +4,7 @@ ghost use Rattle.sheet.specs.Answers.{sheetRead, worthsRead};
 ghost use Rattle.sale.specs.Answers.{demandAnswer, SaleSays};
 ghost use Rattle.direct.specs.Answers.{directAnswer};
 ghost use Rattle.printed.specs.Printed.{PrintSays};
-ghost use Rattle.boundary.specs.Boundary.{fieldAnswer};
+ghost use Rattle.hokewhuni.specs.Boundary.{fieldAnswer};
 use direct::Direct;
 use fields::Field;
 use sale::Demand;

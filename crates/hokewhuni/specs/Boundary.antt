@@ -4,7 +4,7 @@ use Prim.Native.Nat.{ℕ}
 use Rattle.fields.specs.declared.Field.{Field}
 use Rattle.fields.specs.declared.Field.the-variants.{Number, Faulty}
 use Rattle.fields.specs.Fields.{fieldAt, nextColumn}
-use Rattle.boundary.specs.declared.FieldAnswer.{FieldAnswer}
+use Rattle.hokewhuni.specs.declared.FieldAnswer.{FieldAnswer}
 
 -- the refusal number of each case and its value: 0 and the number, or 6 and the faulty offset (the first line makes it 2, with place 0)
 abbrev pub fieldFault : Field → ℕ

@@ -1,8 +1,8 @@
--- `boundary::hokewhuni_read_field` meets its contract.
+-- `hokewhuni::hokewhuni_read_field` meets its contract.
 use borrow.Author.Needs.{needs}
-use Rattle.boundary.proofs.Answered.{answered}
-use Rattle.boundary.proofs.hokewhuni_read_field.Statement.{statement}
-use Rattle.boundary.proofs.hokewhuni_read_field.Tie as tie
+use Rattle.hokewhuni.proofs.Answered.{answered}
+use Rattle.hokewhuni.proofs.hokewhuni_read_field.Statement.{statement}
+use Rattle.hokewhuni.proofs.hokewhuni_read_field.Tie as tie
 
 read-field-requires : tie.Need-read-field-requires
 read-field-requires c κs = search needs

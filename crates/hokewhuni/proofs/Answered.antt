@@ -5,8 +5,8 @@ use Prim.Native.Nat.{ℕ}
 use Rattle.fields.specs.declared.Field.{Field}
 use Rattle.fields.specs.declared.FieldRead.{FieldRead}
 use Rattle.fields.specs.Fields.{fieldRead}
-use Rattle.boundary.specs.declared.FieldAnswer.{FieldAnswer}
-use Rattle.boundary.specs.Boundary.{fieldFault, fieldValue, fieldAnswer}
+use Rattle.hokewhuni.specs.declared.FieldAnswer.{FieldAnswer}
+use Rattle.hokewhuni.specs.Boundary.{fieldFault, fieldValue, fieldAnswer}
 
 abbrev told : ℕ → Field → FieldAnswer
 told next f = record { next = next; number = fieldFault f; value = fieldValue f }

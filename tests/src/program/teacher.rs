@@ -1,0 +1,81 @@
+//! The rounds of table 3 on the teacher's page, row by row.
+
+use std::fs;
+
+use super::in_repository;
+use crate::reckoning::allocation::{includes, only, Buyers};
+use crate::reckoning::demand::{demand, price, Prices};
+use crate::reckoning::round::{Market, Round};
+use crate::reckoning::sheet::{bundles, read_sheet, Sheet};
+use crate::tally::Tally;
+
+const PAGE: &str = "docs/TEACHER.md";
+
+const SHEET: &str = "examples/table-3.sheet";
+
+pub fn compare(tally: &mut Tally) {
+    tally.group("the teacher's page", |tally| {
+        let read = |path| fs::read(in_repository(path)).map_err(|error| error.to_string());
+        let page = tally.succeeds(PAGE, read(PAGE));
+        let bytes = tally.succeeds(SHEET, read(SHEET));
+        let sheet = read_sheet(&bytes).map_err(|refusal| format!("{refusal:?}"));
+        let rows = tally.succeeds(SHEET, sheet.map(|sheet| rows(&sheet)));
+        let table = table(&String::from_utf8_lossy(&page));
+        tally.text("the rounds of table 3", table.as_bytes(), rows.as_bytes());
+    });
+}
+
+/// The rows below the page's heading of rounds.
+fn table(page: &str) -> String {
+    let lines = page
+        .lines()
+        .skip_while(|line| !line.starts_with("| round |"));
+    let rows = lines.skip(2).take_while(|line| line.starts_with('|'));
+    rows.map(|row| format!("{row}\n")).collect()
+}
+
+/// A row for each round, and one for the end.
+fn rows(sheet: &Sheet) -> String {
+    let market = Market::new(sheet);
+    let mut prices = Prices::default();
+    let mut rows = String::new();
+    for number in 1.. {
+        let round = Round::new(&market, &prices);
+        let mut cells: Vec<String> = (1..=sheet.buyers)
+            .map(|buyer| quoted(sheet, &prices, buyer))
+            .collect();
+        let economies = market.economies.iter();
+        cells.push(joined(economies.map(|economy| round.revenue(economy)), " "));
+        let cells = cells.join(" | ");
+        let Some(set) = round.lowest_undersupplied() else {
+            return rows + &format!("| end | {cells} | none | |\n");
+        };
+        let members = members(sheet.buyers, set);
+        rows += &format!("| {number} | {cells} | {members} | {set} |\n");
+        round.raise(set, &mut prices);
+    }
+    rows
+}
+
+/// A buyer's prices, those of the bundles that it demands in brackets.
+fn quoted(sheet: &Sheet, prices: &Prices, buyer: usize) -> String {
+    let demand = demand(sheet, prices, buyer);
+    let quotes = (1..=bundles(sheet.lots)).map(|bundle| {
+        let price = price(prices, buyer, bundle);
+        match demand.holds(bundle) {
+            true => format!("({price})"),
+            false => price.to_string(),
+        }
+    });
+    joined(quotes, " ")
+}
+
+fn members(buyers: usize, set: Buyers) -> String {
+    let members = (1..=buyers).filter(|&buyer| includes(set, only(buyer)));
+    format!("{{{}}}", joined(members, ","))
+}
+
+fn joined<T: ToString>(parts: impl Iterator<Item = T>, between: &str) -> String {
+    let parts: Vec<String> = parts.map(|part| part.to_string()).collect();
+    parts.join(between)
+}
