@@ -9,7 +9,7 @@ use borrow.Rule.Slice.PartMut.{putMid}
 use Rattle.theory.specs.Lists.{tabulate, over}
 use Rattle.theory.proofs.Over.{over-long, over-then}
 use Rattle.fields.specs.Fields.{lineOf, linesOf}
-use Rattle.printing.proofs.Lines.{line-length, lines-length, lines-append}
+use Rattle.fields.proofs.Lines.{line-length, lines-length, lines-append}
 use Rattle.printed.specs.Printed.{lotLine, buyerLine, settledBy, Puts}
 
 pub puts-none : (text o : List ℕ) → length o < length text → Puts text o o 0

@@ -13,7 +13,7 @@ use borrow.Author.Tests.{eq-eqb, ne-eqb}
 use Rattle.theory.specs.Sums.{pick}
 use Rattle.theory.specs.Lists.{over}
 use Rattle.theory.proofs.Over.{over-long}
-use Rattle.printing.proofs.Lines.{line-length}
+use Rattle.fields.proofs.Lines.{line-length}
 use Rattle.sheet.specs.Sheets.{Sheet, sheetOf}
 use Rattle.sheet.specs.Questions.{accepts, onward, sheetFault}
 use Rattle.sheet.specs.declared.Fault.{Fault}

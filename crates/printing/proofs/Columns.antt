@@ -1,29 +1,21 @@
 -- A number printed column by column (`Putting`): the begin (`put-none`), one column more, with a digit (`put-digit`) or a blank (`put-blank`), and the end
 -- (`put-all`). Assumes a number of at most six digits.
 use mathlib.Core.Path.{_≡_, refl, sym, ap, _∙_}
-use mathlib.Core.Bool.{Bool, true, false, _&&_, _||_}
+use mathlib.Core.Bool.{Bool, true, false, _||_}
 use mathlib.Core.List.{List, [], _∷_, _++_}
 use Prim.Native.Nat.{ℕ, zero, suc, _+_, _-_, _/_, _%_, _^_, _≤_, _<_}
 use native.Mathlib.Nat.{mod-lt, div-lt-iff-lt-mul, one-le-pow, pow-suc}
 use native.Mathlib.Numerals.{add-one}
 use native.Mathlib.Omega.{arith}
-use lib.Dec.{eqb, leb, ltb, lit<}
+use lib.Dec.{eqb, leb, lit<}
 use lib.ListN.{length, take, drop, set, getD}
 use lib.Seq.{drop-cons, take-suc, length-take-le, take-all}
 use borrow.Author.Tests.{ne-eqb, le-leb, leb-true, leb-false, lt-ltb, le-ltb}
 use Rattle.theory.specs.Lists.{over}
-use Rattle.theory.proofs.Tests.{by-test, fails}
+use Rattle.theory.proofs.Tests.{fails}
 use Rattle.theory.proofs.Over.{over-long, over-more}
 use Rattle.fields.specs.Fields.{digits, columns}
-
-digits-length : (k v : ℕ) → length (digits k v) ≡ k
-digits-length zero v = refl
-digits-length (suc k) v = ap suc (digits-length k (v % 10 ^ k))
-
-pub columns-length : (k v : ℕ) → length (columns k v) ≡ k
-columns-length zero v = refl
-columns-length (suc k) v =
-    by-test (leb 1 k && ltb v (10 ^ k)) (λ t. rw t (ap suc (columns-length k v))) (λ t. rw t (ap suc (digits-length k (v % 10 ^ k))))
+use Rattle.fields.proofs.Lines.{columns-length}
 
 -- the last k columns, with the number left for them; before the first digit or after it
 abbrev pub lastColumns : Bool → ℕ → ℕ → List ℕ

@@ -1,26 +1,18 @@
 -- A line printed field by field: one field more (`fields-more`), and the line end (`line-end`); and lines of the same length, one line more (`lines-more`).
 -- Assumes room for them.
-use mathlib.Core.Path.{_≡_, refl, sym, ap, _∙_}
-use mathlib.Core.List.{List, [], _∷_, _++_, append-assoc, append-nil}
+use mathlib.Core.Path.{_≡_, sym, ap, _∙_}
+use mathlib.Core.List.{List, [], _∷_, _++_, append-nil}
 use Prim.Native.Nat.{ℕ, zero, suc, _+_, _-_, _*_, _≤_, _<_}
-use native.Mathlib.Nat.{zero-add, mul-suc}
+use native.Mathlib.Nat.{zero-add}
 use native.Mathlib.Numerals.{add-one}
 use native.Mathlib.Omega.{arith}
-use lib.ListN.{length, take, drop, set, getD, length-append}
+use lib.ListN.{length, take, drop, set, getD}
 use lib.Seq.{take-suc, length-take-le}
 use borrow.Rule.Slice.PartMut.{putMid}
 use Rattle.theory.specs.Lists.{tabulate, over}
 use Rattle.theory.proofs.Over.{over-long, over-more, over-then}
 use Rattle.fields.specs.Fields.{columns, fieldsOf, lineOf, linesOf}
-use Rattle.printing.proofs.Columns.{columns-length}
-
-pub fields-length : (vs : List ℕ) → length (fieldsOf vs) ≡ 6 * length vs
-fields-length [] = refl
-fields-length (v ∷ vs) = length-append (columns 6 v) (fieldsOf vs) ∙ omega (arith, columns-length 6 v, fields-length vs)
-
-fields-append : (vs us : List ℕ) → fieldsOf (vs ++ us) ≡ fieldsOf vs ++ fieldsOf us
-fields-append [] us = refl
-fields-append (v ∷ vs) us = ap (λ x. columns 6 v ++ x) (fields-append vs us) ∙ sym (append-assoc (columns 6 v) (fieldsOf vs) (fieldsOf us))
+use Rattle.fields.proofs.Lines.{columns-length, fields-length, fields-append, lines-append, lines-length}
 
 module _ (ns o : List ℕ) (k : ℕ) (l : List ℕ) (e : l ≡ over (fieldsOf (take k ns)) o) (h : k ≤ length ns) where
   so-far : length (fieldsOf (take k ns)) ≡ 6 * k
@@ -44,34 +36,22 @@ module _ (ns o : List ℕ) (k : ℕ) (l : List ℕ) (e : l ≡ over (fieldsOf (t
   pub line-end : 6 * k < length o → (end : ℕ) → end ≡ 6 * k → set l end 10 ≡ over (lineOf (take k ns)) o
   line-end room end ee = ap (λ x. set x end 10) e ∙ over-more (fieldsOf (take k ns)) o 10 end (so-far ∙ sym ee) (omega arith)
 
--- lines of the same length, one after another
-pub lines-append : (ls ks : List (List ℕ)) → linesOf (ls ++ ks) ≡ linesOf ls ++ linesOf ks
-lines-append [] ks = refl
-lines-append (l ∷ ls) ks = ap (λ x. lineOf l ++ x) (lines-append ls ks) ∙ sym (append-assoc (lineOf l) (linesOf ls) (linesOf ks))
-
 tabulate-last : {A : Type 0} (k s : ℕ) (f : ℕ → A) → tabulate (suc k) s f ≡ tabulate k s f ++ (f (s + k) ∷ [])
 tabulate-last zero s f = ap (λ i. f i ∷ []) (omega arith)
 tabulate-last (suc k) s f =
     ap (λ l. f s ∷ l) (tabulate-last k (suc s) f ∙ ap (λ i. tabulate k (suc s) f ++ (f i ∷ [])) (omega arith))
 
-pub line-length : (vs : List ℕ) → length (lineOf vs) ≡ 6 * length vs + 1
-line-length vs = length-append (fieldsOf vs) (10 ∷ []) ∙ omega (arith, fields-length vs)
-
+-- lines of the same length, one after another
 module _ (f : ℕ → List ℕ) (wide : ℕ) (each : (i : ℕ) → length (lineOf (f i)) ≡ wide) where
-  pub lines-length : (k s : ℕ) → length (linesOf (tabulate k s f)) ≡ wide * k
-  lines-length zero s = omega arith
-  lines-length (suc k) s =
-      length-append (lineOf (f s)) (linesOf (tabulate k (suc s) f)) ∙ omega (arith, each s, lines-length k (suc s), mul-suc wide k)
-
   module _ (o : List ℕ) (k : ℕ) (l : List ℕ) (e : l ≡ over (linesOf (tabulate k 0 f)) o) where
     pub lines-long : wide * k ≤ length o → length l ≡ length o
-    lines-long room = ap length e ∙ over-long (linesOf (tabulate k 0 f)) o (omega (arith, lines-length k 0))
+    lines-long room = ap length e ∙ over-long (linesOf (tabulate k 0 f)) o (omega (arith, lines-length f wide each k 0))
 
     -- the buffer from line k on comes back with a line
     pub lines-more : wide * k + wide ≤ length o → (at : ℕ) → at ≡ wide * k → (last vs : List ℕ) → vs ≡ f k →
         last ≡ over (lineOf vs) (take (length l - at) (drop at l)) → putMid at (length l - at) l last ≡ over (linesOf (tabulate (k + 1) 0 f)) o
     lines-more room at ea last vs ev el =
-        over-then (linesOf (tabulate k 0 f)) (lineOf (f k)) o l last at (lines-length k 0 ∙ sym ea) (omega (arith, each k)) e
+        over-then (linesOf (tabulate k 0 f)) (lineOf (f k)) o l last at (lines-length f wide each k 0 ∙ sym ea) (omega (arith, each k)) e
         (el ∙ ap (λ v. over (lineOf v) (take (length l - at) (drop at l))) ev)
         ∙ ap (λ x. over x o) (one-more ∙ ap (λ j. linesOf (tabulate j 0 f)) (sym (add-one k)))
       where

@@ -9,7 +9,7 @@ use lib.ListN.{length, take, drop, getD}
 use Rattle.fields.specs.declared.Field.the-variants.{Number, Faulty}
 use Rattle.fields.specs.Fields.{fieldAt, columns}
 use Rattle.numbers.specs.Numbers.{bit}
-use Rattle.sheet.specs.Sheets.{Sheet, sheetOf, worth}
+use Rattle.sheet.specs.Sheets.{Sheet, sheetOf, worth, bytesOf}
 use Rattle.sheet.specs.Questions.{sheetFault}
 
 -- where place c of line i begins: six columns to a field, and a line end to a line
@@ -110,6 +110,9 @@ pub record Sheets : Type 0 where
       ((j : ℕ) → j < w .lots → bit j s ≡ true → bit j t ≡ true) → worth w i s ≤ worth w i t
   pub accepted-written : (b : List ℕ) → sheetFault b .number ≡ 0 → Written b (sheetOf b)
   pub written-accepted : (b : List ℕ) (w : Sheet) → Shape w → Grows w → Written b w → (sheetFault b .number ≡ 0) × (sheetOf b ≡ w)
+  -- so an accepted sheet has the bytes of its numbers, and the bytes of every such table are accepted and read as it is
+  pub accepted-bytes : (b : List ℕ) → sheetFault b .number ≡ 0 → b ≡ bytesOf (sheetOf b)
+  pub bytes-accepted : (w : Sheet) → Shape w → Grows w → (sheetFault (bytesOf w) .number ≡ 0) × (sheetOf (bytesOf w) ≡ w)
   -- a sheet with bytes missing at its end is refused; one of 560 bytes or more is, and those after them make no difference
   pub prefix-refused : (a c : List ℕ) → sheetFault (a ++ c) .number ≡ 0 → 0 < length c → sheetFault a .number ≢ 0
   pub long-refused : (b : List ℕ) → 560 ≤ length b → sheetFault b .number ≢ 0

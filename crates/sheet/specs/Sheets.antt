@@ -1,13 +1,14 @@
--- What the bytes of a lot sheet say: where each field stands, and the sheet's buyers, lots and worths (`sheetOf`), whether or not it is accepted.
+-- What the bytes of a lot sheet say: where each field stands, and the sheet's buyers, lots and worths (`sheetOf`), whether or not it is accepted; and the
+-- bytes in which such numbers are written (`bytesOf`).
 -- Lines of worths are counted from 0, so buyer i has line i - 1; the places of a line from 0, so bundle s has place s - 1.
 use mathlib.Core.Bool.{_&&_}
-use mathlib.Core.List.{List}
+use mathlib.Core.List.{List, [], _∷_}
 use Prim.Native.Nat.{ℕ, zero, suc, _+_, _-_, _*_, _/_, _%_, _^_}
 use lib.Dec.{ltb}
 use lib.ListN.{getD}
 use Rattle.theory.specs.Sums.{when}
 use Rattle.theory.specs.Lists.{tabulate}
-use Rattle.fields.specs.Fields.{numberAt}
+use Rattle.fields.specs.Fields.{numberAt, linesOf}
 
 -- "Then each buyer has one line with the worths of bundles 1, 2, .. up to 2^n − 1": six columns each, and the line end
 abbrev pub lineLength : ℕ → ℕ
@@ -43,3 +44,10 @@ sheetOf b = let m = numberAt 0 b in let n = numberAt 6 b in asSheet m n (worthsI
 -- the worth of bundle s on line i
 abbrev pub worth : Sheet → ℕ → ℕ → ℕ
 worth w i s = getD (w .worths) (16 * i + s) 0
+
+-- the numbers of line i, and the bytes of a sheet
+abbrev pub lineWorths : Sheet → ℕ → List ℕ
+lineWorths w i = tabulate (2 ^ w .lots - 1) 1 (worth w i)
+
+abbrev pub bytesOf : Sheet → List ℕ
+bytesOf w = linesOf ((w .buyers ∷ w .lots ∷ []) ∷ tabulate (w .buyers) 0 (lineWorths w))

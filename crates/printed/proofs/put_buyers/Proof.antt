@@ -7,7 +7,8 @@ use lib.ListN.{length, getD, length-take, length-drop}
 use Rattle.theory.specs.Lists.{tabulate, over}
 use Rattle.fields.specs.Fields.{lineOf, linesOf}
 use Rattle.owners.specs.Prices.{plain, price}
-use Rattle.printing.proofs.Lines.{line-length, lines-long, lines-more}
+use Rattle.fields.proofs.Lines.{line-length}
+use Rattle.printing.proofs.Lines.{lines-long, lines-more}
 use Rattle.printed.specs.Printed.{buyerLine}
 use Rattle.printed.proofs.Fours.{four-small}
 use Rattle.printed.proofs.put_buyers.Statement.{statement}

@@ -6,7 +6,8 @@ use native.Mathlib.Omega.{arith}
 use lib.ListN.{length, length-take, length-drop}
 use Rattle.theory.specs.Lists.{tabulate, over}
 use Rattle.fields.specs.Fields.{lineOf, linesOf}
-use Rattle.printing.proofs.Lines.{line-length, lines-long, lines-more}
+use Rattle.fields.proofs.Lines.{line-length}
+use Rattle.printing.proofs.Lines.{lines-long, lines-more}
 use Rattle.printed.specs.Printed.{lotLine}
 use Rattle.printed.proofs.Fours.{four-small}
 use Rattle.printed.proofs.put_lots.Statement.{statement}

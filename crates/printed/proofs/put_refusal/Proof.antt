@@ -5,7 +5,7 @@ use native.Mathlib.Omega.{arith}
 use lib.ListN.{length}
 use Rattle.theory.proofs.Over.{over-long}
 use Rattle.fields.specs.Fields.{lineOf}
-use Rattle.printing.proofs.Lines.{line-length}
+use Rattle.fields.proofs.Lines.{line-length}
 use Rattle.printed.proofs.Fours.{four-small}
 use Rattle.printed.proofs.Parts.{puts-none, puts-whole}
 use Rattle.printed.proofs.put_refusal.Statement.{statement}
