@@ -1,22 +1,24 @@
 -- Every number of a sale's answer has at most six digits (`prints-fit`), and a record of 59,994 bytes is long enough for every sale (`sale-asked`,
 -- `never-nine`). Assumes nothing.
-use mathlib.Core.Path.{_≡_, refl, ap, _∙_}
+use mathlib.Core.Path.{_≡_, refl, sym, ap, subst, _∙_}
 use mathlib.Core.Logic.{_≢_, inl, inr}
 use mathlib.Core.Bool.{Bool}
-use mathlib.Core.List.{List}
-use Prim.Native.Nat.{ℕ, suc, _+_, _-_, _*_, _^_, _≤_, _<_}
+use mathlib.Core.List.{List, [], _∷_, List·Memᴰ·head as here, List·Memᴰ·tail as there}
+use Prim.Native.Nat.{ℕ, zero, suc, _+_, _-_, _*_, _^_, _≤_, _<_}
 use native.Mathlib.Nat.{zero-add, mul-le-mul}
 use native.Mathlib.Omega.{arith}
 use native.Mathlib.Decide.{decLt, decLe, ℕ-discrete}
 use lib.Dec.{leb}
-use lib.ListN.{length, getD, List·getD-eq-default}
+use lib.ListN.{length, take, getD, List·getD-eq-default}
+use lib.Seq.{getD-take}
 use borrow.Author.Tests.{lt-ltb, le-ltb, le-leb}
 use Rattle.theory.specs.Sums.{Among}
-use Rattle.theory.specs.Lists.{tabulate}
+use Rattle.theory.specs.Lists.{_∈_, tabulate}
 use Rattle.theory.specs.Markets.{total}
 use Rattle.theory.proofs.Sums.{sum-mono, sum-const}
 use Rattle.theory.proofs.Lists.{most-bound, tabulate-at, tabulate-length, zeros-at}
 use Rattle.owners.specs.Owners.{zeroFirst}
+use Rattle.owners.specs.Prices.{plain, price}
 use Rattle.owners.proofs.Owners.{allocation-from}
 use Rattle.owners.proofs.Singles.{singles-below, worth-small, limit-small}
 use Rattle.numbers.proofs.Numbers.{pow-small}
@@ -35,6 +37,7 @@ use Rattle.sale.specs.Answers.{saleFault, refusedSale, settledSale, SaleSays}
 use Rattle.sale.proofs.Instance.{shape}
 use Rattle.sale.proofs.Theorems as sales
 use Rattle.sale.proofs.Opening.{sale-open, sale-closed}
+use Rattle.direct.specs.Answers.{directAnswer}
 use Rattle.demands.proofs.First.{demand-1}
 use Rattle.demands.proofs.Third.{demand-3}
 use Rattle.printed.specs.Printed.{Printable}
@@ -90,6 +93,27 @@ module _ (b : List ℕ) (accepted : sheetFault b .number ≡ 0) where
       let same = ap (λ i. getD (r .payments) i 0) j ∙ ap (λ (s : Sale). getD (s .payments) k 0) e ∙ seats-at (w .buyers) (paymentFor w ps) k (shape b accepted .few-buyers) h in
       omega (arith, low, same)
 
+-- an owner is one of the buyers, or nobody
+get-in : (l : List ℕ) (j : ℕ) → j < length l → getD l j 0 ∈ l
+get-in [] j h = absurd (omega arith)
+get-in (x ∷ l) zero h = here refl
+get-in (x ∷ l) (suc j) h = there (get-in l j (omega arith))
+
+owner-small : (b o o′ : List ℕ) (r : Sale) → SaleSays b o o′ r → r .number ≡ 0 → sheetOf b .buyers ≤ 6 → (j : ℕ) → getD (r .owners) j 0 < 1000000
+owner-small b o o′ r says z few j =
+    let w = sheetOf b in
+    let d = directAnswer b in
+    let same = demand-3 .alike b o o′ r d says refl z in
+    let told = demand-3 .reckoned b d refl (same .0) in
+    let (long, owns) = told .list in
+    rw (same .1)
+    (elim (decLt j (w .lots)) [
+      | yes h ↦
+          let there = getD-take (w .lots) (d .owners) j 0 h in
+          omega (arith, there, owns (getD (take (w .lots) (d .owners)) j 0) (get-in (take (w .lots) (d .owners)) j (omega (arith, long))))
+      | no h ↦ omega (arith, told .past j (omega arith))
+    ])
+
 settled-fits : (b o o′ : List ℕ) (r : Sale) → SaleSays b o o′ r → r .number ≡ 0 → Printable r
 unfolding settledSale
 settled-fits b o o′ r says z =
@@ -103,6 +127,10 @@ settled-fits b o o′ r says z =
       buyers = omega (arith, ap (λ (s : Sale). s .buyers) e, shape b yes′ .few-buyers);
       lots = omega (arith, ap (λ (s : Sale). s .lots) e, shape b yes′ .few-lots);
       rounds = omega (arith, ap (λ (s : Sale). s .rounds) e, rounds-small b yes′);
+      owners = owner-small b o o′ r says z (shape b yes′ .few-buyers);
+      prices =
+          subst (λ (x : Sale). (i s : ℕ) → Among (x .buyers) 1 i → s < 2 ^ x .lots → price (plain 6) (x .prices) i s < 1000000) (sym e)
+          (λ i s a h. omega (arith, cheap b yes′ i s a h));
       discounts = λ k. rw e (seats-small 1000000 (w .buyers) (discountFor w (lastPrices w)) (omega arith) (discount-small b yes′) k);
       payments = λ k. rw e (seats-small 1000000 (w .buyers) (paymentFor w (lastPrices w)) (omega arith) (payment-small b yes′ o o′ r says z e) k);
     }
@@ -132,6 +160,8 @@ refused-fits b o o′ r says n =
       buyers = omega (arith, ap (λ (s : Sale). s .buyers) e);
       lots = omega (arith, ap (λ (s : Sale). s .lots) e);
       rounds = omega (arith, ap (λ (s : Sale). s .rounds) e);
+      owners = λ j. omega (arith, ap (λ (s : Sale). getD (s .owners) j 0) e, zeros-at 4 j);
+      prices = λ i s a h. absurd (omega (arith, a, ap (λ (s : Sale). s .buyers) e));
       discounts = λ k. omega (arith, ap (λ (s : Sale). getD (s .discounts) k 0) e, zeros-at 6 k);
       payments = λ k. omega (arith, ap (λ (s : Sale). getD (s .payments) k 0) e, zeros-at 6 k);
     }

@@ -2,10 +2,10 @@
 use mathlib.Core.Path.{_≡_}
 use mathlib.Core.Logic.{_≢_}
 use mathlib.Core.List.{List, [], _∷_, _++_}
-use Prim.Native.Nat.{ℕ, _+_, _≤_, _<_}
+use Prim.Native.Nat.{ℕ, _+_, _^_, _≤_, _<_}
 use lib.Dec.{eqb}
 use lib.ListN.{length, take, getD, replicate}
-use Rattle.theory.specs.Sums.{pick}
+use Rattle.theory.specs.Sums.{Among, pick}
 use Rattle.theory.specs.Lists.{tabulate, over}
 use Rattle.fields.specs.Fields.{lineOf, linesOf}
 use Rattle.owners.specs.Owners.{bundleFrom, single}
@@ -50,13 +50,15 @@ pub record Puts (text o o′ : List ℕ) (r : ℕ) : Type 0 where
   pub whole : length text ≤ length o → (r ≡ length text) × (o′ ≡ over text o)
   pub none : length o < length text → (r ≡ 0) × (o′ ≡ o)
 
--- an answer whose numbers all fit six columns, of at most six buyers and four lots
+-- an answer whose numbers all fit six columns, of at most six buyers and four lots; prices of the buyers and bundles there are
 pub record Printable (r : Sale) : Type 0 where
   pub number : r .number < 1000000
   pub place : r .place < 1000000
   pub buyers : r .buyers ≤ 6
   pub lots : r .lots ≤ 4
   pub rounds : r .rounds < 1000000
+  pub owners : (j : ℕ) → getD (r .owners) j 0 < 1000000
+  pub prices : (i s : ℕ) → Among (r .buyers) 1 i → s < 2 ^ r .lots → price (plain 6) (r .prices) i s < 1000000
   pub discounts : (k : ℕ) → getD (r .discounts) k 0 < 1000000
   pub payments : (k : ℕ) → getD (r .payments) k 0 < 1000000
 
