@@ -1,6 +1,5 @@
--- Demand at any prices. Offers `quoted`, the answers of bidders with these worths; `demandSet`, a demand set as
--- one number; and `SameDemand`, lists of prices at which a bidder demands the same. Lists have sixteen numbers to a buyer. How many buyers there are plays
--- no part: `plain 6` seats each of them as `plain m` does.
+-- Demand at any prices. Offers `quoted`, the answers of bidders with these worths, and `demandSet`, a demand set as one number. Lists have sixteen numbers to
+-- a buyer. How many buyers there are plays no part: `plain 6` seats each of them as `plain m` does.
 use mathlib.Core.List.{List}
 use Prim.Native.Nat.{ℕ, _^_}
 use Rattle.theory.specs.Sums.{when, sum}

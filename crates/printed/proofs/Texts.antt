@@ -1,6 +1,5 @@
 -- The text of a sheet: it is what is printed of its sale with any record that is long enough (`any-record`), it has at most 227 bytes (`longest`), and it
--- depends on the first 560 bytes alone (`cut`). `text-told` and `text-within`
--- are for the text as an answer. Assumes nothing.
+-- depends on the first 560 bytes alone (`cut`). `text-told` and `text-within` are for the text as an answer. Assumes nothing.
 use mathlib.Core.Path.{_≡_, refl, sym, ap, ap₂, subst, _∙_}
 use mathlib.Core.Logic.{_≢_}
 use mathlib.Core.List.{List, [], _∷_}

@@ -1,5 +1,6 @@
 -- At a sale's own prices the lowest undersupplied set follows from the payoffs and a value for each set of bidders
--- (`lowest-by`). Values are `exact-values`; nothing is cut off (`revenue-is`, `gain-exact`). Assumes `Ready`, `Proper`, and payoffs that come to at most `shift`.
+-- (`lowest-by`). Values are `exact-values`; nothing is cut off (`revenue-is`, `gain-exact`). Assumes `Ready`, `Proper`,
+-- and payoffs that come to at most `shift`.
 use mathlib.Core.Path.{_≡_, refl, sym, ap, _∙_}
 use mathlib.Core.Logic.{inl, inr}
 use mathlib.Core.Bool.{Bool, true, false, not, _&&_}

@@ -1,4 +1,4 @@
--- `totals::greatest_totals` meets its contract. The invariant: the greatest totals so far and those with an owner from o on give the greatest of the branch.
+-- `totals::greatest_total` meets its contract. The invariant: the greatest totals so far and those with an owner from o on give the greatest of the branch.
 use mathlib.Core.Logic.{⊎-elim}
 use mathlib.Core.Path.{_≡_}
 use Prim.Native.Nat.{ℕ, max, _+_, _-_, _≤_, _<_}

@@ -1,4 +1,4 @@
--- `totals::totals_of` meets its contract. The invariant: the prices so far and those of the buyers from i on make the whole sum.
+-- `totals::total_of` meets its contract. The invariant: the prices so far and those of the buyers from i on make the whole sum.
 use mathlib.Core.Path.{_≡_, refl, ap}
 use Prim.Native.Nat.{_+_, _-_, _*_, _≤_}
 use native.Mathlib.Nat.{zero-add}
