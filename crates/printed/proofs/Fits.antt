@@ -4,8 +4,8 @@ use mathlib.Core.Path.{_≡_, refl, sym, ap, subst, _∙_}
 use mathlib.Core.Logic.{_≢_, inl, inr}
 use mathlib.Core.Bool.{Bool}
 use mathlib.Core.List.{List, [], _∷_, List·Memᴰ·head as here, List·Memᴰ·tail as there}
-use Prim.Native.Nat.{ℕ, zero, suc, _+_, _-_, _*_, _^_, _≤_, _<_}
-use native.Mathlib.Nat.{zero-add, mul-le-mul}
+use Prim.Native.Nat.{ℕ, zero, suc, _-_, _^_, _≤_, _<_}
+use native.Mathlib.Nat.{zero-add}
 use native.Mathlib.Omega.{arith}
 use native.Mathlib.Decide.{decLt, decLe, ℕ-discrete}
 use lib.Dec.{leb}
@@ -21,11 +21,11 @@ use Rattle.owners.specs.Owners.{zeroFirst}
 use Rattle.owners.specs.Prices.{plain, price}
 use Rattle.owners.proofs.Owners.{allocation-from}
 use Rattle.owners.proofs.Singles.{singles-below, worth-small, limit-small}
-use Rattle.numbers.proofs.Numbers.{pow-small}
 use Rattle.sheet.specs.Sheets.{Sheet, sheetOf}
 use Rattle.sheet.specs.declared.Fault.{Fault}
 use Rattle.sheet.specs.Questions.{fault, sheetFault}
 use Rattle.sheet.proofs.Theorems.{refusal-range}
+use Rattle.sheet.proofs.Long.{most-bytes}
 use Rattle.sheet.proofs.Forms.{asked-first, asked-yes}
 use Rattle.totals.specs.Words.{allocations, market}
 use Rattle.totals.specs.Seats.{seat, seats}
@@ -153,8 +153,7 @@ refused-fits b o o′ r says n =
                       let yes-to = told .first-no (r .number) (omega arith) g .0 refl .0 in
                       let (some, few) = yes-to 3 (omega arith) in
                       let (some′, short) = yes-to 4 (omega arith) in
-                      let wide : 6 * (2 ^ sheetOf b .lots - 1) + 1 ≤ 91 = omega (arith, pow-small (sheetOf b .lots) short) in
-                      omega (arith, told .a-place l g .1, yes-to 5 (omega arith), mul-le-mul few wide)
+                      omega (arith, told .a-place l g .1, yes-to 5 (omega arith), most-bytes (sheetOf b .buyers) (sheetOf b .lots) few short)
                 ]
           ];
       buyers = omega (arith, ap (λ (s : Sale). s .buyers) e);

@@ -1,4 +1,4 @@
--- The text of a sheet: it is what is printed of its sale with any record that is long enough (`any-record`), it has at most 227 bytes (`longest`), and it
+-- The text of a sheet: it is what is printed of its sale with any record that is long enough (`any-record`), it has 13 to 227 bytes (`shortest`, `longest`), and it
 -- depends on the first 560 bytes alone (`cut`). `text-told` and `text-within` are for the text as an answer. Assumes nothing.
 use mathlib.Core.Path.{_≡_, refl, sym, ap, ap₂, subst, _∙_}
 use mathlib.Core.Logic.{_≢_}
@@ -8,15 +8,18 @@ use native.Mathlib.Omega.{arith}
 use native.Mathlib.Decide.{decLe, ℕ-discrete}
 use lib.ListN.{length, take, drop, replicate, take-append-drop}
 use lib.Seq.{take-all, length-take-le}
+use lib.Dec.{eqb}
 use borrow.Author.Tests.{eq-eqb, ne-eqb}
 use Rattle.theory.specs.Sums.{pick}
 use Rattle.theory.specs.Lists.{over}
+use Rattle.theory.proofs.Tests.{by-test}
 use Rattle.theory.proofs.Over.{over-long}
 use Rattle.fields.proofs.Lines.{line-length}
 use Rattle.sheet.specs.Sheets.{Sheet, sheetOf}
 use Rattle.sheet.specs.Questions.{accepts, onward, sheetFault}
 use Rattle.sheet.specs.declared.Fault.{Fault}
 use Rattle.sheet.proofs.Long.{long-refused, long-alike}
+use Rattle.sale.specs.declared.Sale.{Sale}
 use Rattle.sale.specs.Answers.{settledSale, refusedSale, saleAnswer}
 use Rattle.sale.proofs.Instance.{shape}
 use Rattle.printed.specs.declared.Text.{Text}
@@ -31,6 +34,11 @@ printed-settled w = refl
 printed-refused : (f : Fault) → f .number ≢ 0 → printed (refusedSale f) ≡ refusedText (f .number) (f .place)
 unfolding refusedSale
 printed-refused f n = ap (λ x. pick x (settledText (refusedSale f)) (refusedText (f .number) (f .place))) (ne-eqb (f .number) 0 n)
+
+pub shortest : (r : Sale) → 13 ≤ length (printed r)
+shortest r =
+    let long = text-length (r .buyers) (r .lots) (r .rounds) (r .prices) (r .owners) (r .discounts) (r .payments) in
+    by-test (eqb (r .number) 0) (λ e. rw e (omega (arith, long))) (λ e. rw e (omega (arith, line-length (r .number ∷ r .place ∷ []))))
 
 module _ (b : List ℕ) where
   settled : sheetFault b .number ≡ 0 → printedSale b ≡ settledText (settledSale (sheetOf b))
@@ -99,4 +107,4 @@ text-within b r e =
     )
 
 pub prints-all : Prints
-prints-all = record { prints-fit = prints-fit; never-nine = never-nine; any-record = any-record; longest = longest; cut = cut }
+prints-all = record { prints-fit = prints-fit; never-nine = never-nine; any-record = any-record; shortest = shortest; longest = longest; cut = cut }

@@ -79,6 +79,8 @@ pub record Prints : Type 0 where
   pub never-nine : (b : List ℕ) (room : ℕ) → 59994 ≤ room → saleFault b room .number ≢ 9
   -- what is printed is then the same whatever the record
   pub any-record : (b : List ℕ) (room : ℕ) → 59994 ≤ room → printed (saleAnswer b room) ≡ printedSale b
+  -- a print is never empty, so that 0 is answered only where it has no room; and it is never long
+  pub shortest : (r : Sale) → 13 ≤ length (printed r)
   pub longest : (b : List ℕ) → length (printedSale b) ≤ 227
   -- a sheet is told by its first 560 bytes: what comes after them makes no difference
   pub cut : (b : List ℕ) → printedSale (take 560 b) ≡ printedSale b

@@ -27,7 +27,7 @@ early head m n =
     fault 5 0
 
 -- six buyers and four lots take 559 bytes
-most-bytes : (m n : ℕ) → m ≤ 6 → n ≤ 4 → 13 + m * lineLength n ≤ 559
+pub most-bytes : (m n : ℕ) → m ≤ 6 → n ≤ 4 → 13 + m * lineLength n ≤ 559
 most-bytes m n few short =
     let wide : lineLength n ≤ 91 = omega (arith, pow-small n short) in
     omega (arith, mul-le-mul few wide)
