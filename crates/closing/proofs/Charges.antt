@@ -57,7 +57,7 @@ payments-due m n ws ps os ds r few eo ed er =
     let a = closingOwners m n ws ps in
     let one : suc k - 1 ≡ k = omega arith in
     let held : bundleFrom single 0 (suc k) (take n os) ≡ bundleFrom single 0 (suc k) a =
-    rw eo (bundle-padded 0 (suc k) n (4 - length a) a (closing-short m n ws ps) (λ z. omega arith)) in
+    rw eo (bundle-padded a (suc k) n (omega arith) (closing-short m n ws ps)) in
     ap₂ _-_ (ap (price (plain 6) ps (suc k)) held) (ap₂ (λ l j. getD l j 0) ed one ∙ seats-at m (discountOf m n ps) k few h))
 
 pub closing-is : (m n : ℕ) (ws ps os ds due : List ℕ) → m ≤ 6 → os ≡ four (closingOwners m n ws ps) → ds ≡ seats m (discountOf m n ps) →

@@ -1,31 +1,37 @@
 -- Demand 1 (`demand-1`): which numbers and places an entry can answer, that 0 means accepted, and what a refusal says. Assumes nothing.
-use mathlib.Core.Path.{_≡_, refl, sym, ap, subst, _∙_}
-use mathlib.Core.Logic.{_≢_, inl, inr}
+use mathlib.Core.Path.{_≡_, refl, sym, ap, subst}
+use mathlib.Core.Logic.{_≢_, _⊎_, inl, inr}
 use mathlib.Core.List.{List}
-use Prim.Native.Nat.{ℕ, _≤_}
+use Prim.Native.Nat.{ℕ, _≤_, _<_}
 use native.Mathlib.Omega.{arith}
 use lib.Dec.{leb}
 use lib.ListN.{length}
 use borrow.Author.Tests.{eqb-true, eqb-false, ne-eqb}
 use Rattle.theory.specs.Sums.{Among}
 use Rattle.theory.proofs.Tests.{by-test, fails, Means, means-via, and-means, leb-means}
-use Rattle.sheet.specs.declared.Fault.{Fault}
 use Rattle.sheet.specs.Sheets.{sheetOf}
-use Rattle.sheet.specs.Questions.{fault, accepts, between, sheetFault}
+use Rattle.sheet.specs.Questions.{accepts, between, sheetFault}
+use Rattle.sheet.specs.Claims.{Placed}
 use Rattle.sheet.specs.Answers.{refusal, worthsBy, worthsRead, sheetRead}
 use Rattle.sheet.proofs.Faults.{first-no, all-yes}
-use Rattle.sheet.proofs.Theorems.{refusal-range, place-zero, place-inside}
+use Rattle.sheet.proofs.Theorems.{refusal-range, place-zero, place-inside, place-least}
 use Rattle.sale.specs.declared.Sale.{Sale}
 use Rattle.sale.specs.Rounds.{roundLimit}
 use Rattle.sale.specs.Claims.{UCE}
-use Rattle.sale.specs.Answers.{saleFault, demandFault, refusedDemand, demandAnswer, settledSale, SaleSays}
+use Rattle.sale.specs.Answers.{demandAnswer, settledSale, SaleSays}
 use Rattle.sale.proofs.Theorems as sales
 use Rattle.direct.specs.declared.Direct.{Direct}
 use Rattle.direct.specs.Answers.{directAnswer}
 use Rattle.demands.specs.Claims.{Numbered, Demand-1}
-use Rattle.sheet.proofs.Forms.{told-number, told-place, told-again, asked, asked-first, asked-yes, asked-no}
-use Rattle.sale.proofs.Opening.{saleForm, demandForm, sale-told, sale-number, sale-open, sale-closed}
-use Rattle.direct.proofs.Opening.{directForm, direct-told, direct-number, direct-closed}
+use Rattle.sheet.proofs.Forms.{asked, asked-first, asked-yes, asked-no}
+use Rattle.sale.proofs.Opening.{sale-number, sale-place, sale-open, sale-closed}
+use Rattle.sale.proofs.Opening.{demand-number, demand-place, demand-closed}
+use Rattle.direct.proofs.Opening.{direct-number, direct-place, direct-closed}
+
+-- other numbers have no place
+not-placed : (b : List ℕ) (k p : ℕ) → (k < 6) ⊎ (8 < k) → Placed b k p
+not-placed b k p (inl h) = (λ e. absurd (omega arith), λ e. absurd (omega arith), λ e. absurd (omega arith))
+not-placed b k p (inr h) = (λ e. absurd (omega arith), λ e. absurd (omega arith), λ e. absurd (omega arith))
 
 -- the sheet's fault, none, or that of the entry's own question
 module _ (b : List ℕ) (own : ℕ) (Own : Type 0) (high : 9 ≤ own) where
@@ -37,6 +43,7 @@ module _ (b : List ℕ) (own : ℕ) (Own : Type 0) (high : 9 ≤ own) where
         range = inl (refusal-range b);
         no-place = λ c. elim c [ inl l ↦ place-zero b l | inr l ↦ absurd (omega (arith, refusal-range b)) ];
         a-place = λ l _. place-inside b l;
+        least-place = place-least b;
       }
 
   module _ (z : sheetFault b .number ≡ 0) where
@@ -48,6 +55,7 @@ module _ (b : List ℕ) (own : ℕ) (Own : Type 0) (high : 9 ≤ own) where
           range = inl (omega arith);
           no-place = λ _. refl;
           a-place = λ l _. absurd (omega arith);
+          least-place = not-placed b 0 0 (inl (omega arith));
         }
 
     refused-last : (Own → ⊥) → Numbered b own Own own 0
@@ -58,6 +66,7 @@ module _ (b : List ℕ) (own : ℕ) (Own : Type 0) (high : 9 ≤ own) where
           range = inr (refl, n);
           no-place = λ _. refl;
           a-place = λ l g. absurd (omega arith);
+          least-place = not-placed b own 0 (inr (omega arith));
         }
 
   -- x is the answer to the entry's own question
@@ -80,41 +89,21 @@ numbered-plain b =
 between-means : (m i : ℕ) → Means (between m i) (Among m 1 i)
 between-means m i = means-via (and-means (leb-means 1 i) (leb-means i m)) (λ c. omega arith) (λ r. (omega arith, omega arith))
 
--- an own question's fault that is none has no place
-own-place : (own : ℕ) (x : _) (f : Fault) → 1 ≤ own → (f .number ≡ 0 → f .place ≡ 0) → asked own x f .number ≡ 0 → asked own x f .place ≡ 0
-own-place own x f some h z =
-    by-test (accepts f)
-    (λ t.
-    let none = eqb-true (f .number) 0 t in
-    by-test x (λ u. rw (asked-yes own x f none u) refl) (λ u. rw (asked-no own x f none u) refl))
-    (λ t.
-    let first = asked-first own x f (eqb-false (f .number) 0 t) in
-    rw first (h (ap (λ (g : Fault). g .number) (sym first) ∙ z)))
-
 same-numbers : {b : List ℕ} {own : ℕ} {Own : Type 0} {n n′ p p′ : ℕ} → n ≡ n′ → p ≡ p′ → Numbered b own Own n′ p′ → Numbered b own Own n p
 same-numbers en ep a = rw (en, ep) a
 
-no-fault : (b : List ℕ) → sheetFault b .number ≡ 0 → sheetFault b .place ≡ 0
-no-fault b z = place-zero b (omega arith)
-
-demand-numbers : (b : List ℕ) (i : ℕ) (ps : List ℕ) → Numbered b 10 (Among (sheetOf b .buyers) 1 i) (demandAnswer b i ps .number) (demandAnswer b i ps .place)
-unfolding demandAnswer demandForm
+demand-numbers : (b : List ℕ) (i : ℕ) (ps : List ℕ) →
+    Numbered b 10 (Among (sheetOf b .buyers) 1 i) (demandAnswer b i ps .number) (demandAnswer b i ps .place)
 demand-numbers b i ps =
-    let x = between (sheetOf b .buyers) i in
-    same-numbers (told-number (demandForm b i ps) (demandFault b i)) (told-place (demandForm b i ps) (demandFault b i) (own-place 10 x (sheetFault b) (omega arith) (no-fault b)))
-    (numbered-asked b 10 _ (omega arith) x (between-means (sheetOf b .buyers) i))
+    same-numbers (demand-number b i ps) (demand-place b i ps)
+    (numbered-asked b 10 _ (omega arith) (between (sheetOf b .buyers) i) (between-means (sheetOf b .buyers) i))
 
-demand-refused : (b : List ℕ) (i : ℕ) (ps : List ℕ) → demandAnswer b i ps .number ≢ 0 → demandAnswer b i ps ≡ refusedDemand (fault (demandAnswer b i ps .number) (demandAnswer b i ps .place))
-unfolding demandAnswer demandForm
-demand-refused b i ps h = told-again (demandForm b i ps) (demandFault b i) h
-
-sale-numbers : (b o o′ : List ℕ) (r : Sale) → SaleSays b o o′ r → Numbered b 9 (roundLimit (sheetOf b) ≤ length o) (r .number) (r .place)
-unfolding saleForm
+sale-numbers : (b o o′ : List ℕ) (r : Sale) → SaleSays b o o′ r →
+    Numbered b 9 (roundLimit (sheetOf b) ≤ length o) (r .number) (r .place)
 sale-numbers b o o′ r says =
-    let x = leb (roundLimit (sheetOf b)) (length o) in
-    same-numbers (sale-number b o o′ r says)
-    (ap (λ (s : Sale). s .place) (sale-told b o o′ r says) ∙ told-place (saleForm b) (saleFault b (length o)) (own-place 9 x (sheetFault b) (omega arith) (no-fault b)))
-    (numbered-asked b 9 _ (omega arith) x (leb-means (roundLimit (sheetOf b)) (length o)))
+    same-numbers (sale-number b o o′ r says) (sale-place b o o′ r says)
+    (numbered-asked b 9 _ (omega arith) (leb (roundLimit (sheetOf b)) (length o))
+    (leb-means (roundLimit (sheetOf b)) (length o)))
 
 settled-uce : (b o o′ : List ℕ) (r : Sale) → SaleSays b o o′ r → r .number ≡ 0 → UCE (sheetOf b) (r .prices)
 unfolding settledSale
@@ -123,13 +112,15 @@ settled-uce b o o′ r says z =
     subst (λ ps. UCE (sheetOf b) ps) (sym (ap (λ (s : Sale). s .prices) (open′ .answer))) (sales.demand-2 b (open′ .accepted) .last-uce)
 
 direct-numbers : (b : List ℕ) (d : Direct) → d ≡ directAnswer b → Numbered b 9 (Unit {0}) (d .number) (d .place)
-unfolding directForm
-direct-numbers b d e =
-    same-numbers (direct-number b d e) (ap (λ (s : Direct). s .place) (direct-told b d e) ∙ told-place (directForm b) (sheetFault b) (no-fault b)) (numbered-plain b)
+direct-numbers b d e = same-numbers (direct-number b d e) (direct-place b d e) (numbered-plain b)
 
 read-again : (b : List ℕ) → worthsRead b .number ≢ 0 → worthsRead b ≡ refusal (worthsRead b .number) (worthsRead b .place)
 unfolding worthsRead worthsBy refusal
 read-again b h = rw (ne-eqb (sheetFault b .number) 0 h)
+
+sheet-again : (b : List ℕ) → let r = sheetRead b in r .number ≢ 0 → r ≡ record { number = r .number; place = r .place; buyers = 0; lots = 0 }
+unfolding sheetRead worthsRead worthsBy
+sheet-again b h = rw (ne-eqb (sheetFault b .number) 0 h)
 
 pub demand-1 : Demand-1
 unfolding sheetRead worthsRead worthsBy
@@ -137,9 +128,10 @@ demand-1 =
     record {
       reads = numbered-plain;
       reads-worths = numbered-plain;
-      reads-refused = read-again;
+      reads-refused = sheet-again;
+      reads-worths-refused = read-again;
       demands = demand-numbers;
-      demands-refused = demand-refused;
+      demands-refused = demand-closed;
       sells = sale-numbers;
       sells-settled = settled-uce;
       sells-refused = sale-closed;

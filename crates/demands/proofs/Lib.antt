@@ -1,5 +1,6 @@
--- The three demands, one after the other, and together.
+-- The three demands, one after the other, and together; what meets the conditions of theorems.
 pub mod First
 pub mod Second
 pub mod Third
 pub mod Demands
+pub mod Witnesses

@@ -7,7 +7,7 @@ use Rattle.sheet.specs.Sheets.{sheetOf}
 use Rattle.sale.specs.declared.Sale.{Sale}
 use Rattle.sale.specs.Rounds.{saleSets}
 use Rattle.sale.specs.Answers.{settledSale}
-use Rattle.sale.proofs.Claimed.{claimed}
+use Rattle.sale.proofs.Claimed.{sales-hold}
 use Rattle.demands.specs.Claims.{Demand-2}
 use Rattle.sale.proofs.Opening.{sale-open}
 
@@ -16,7 +16,7 @@ unfolding settledSale
 demand-2 b o o′ r says z =
     let open′ = sale-open b o o′ r says z in
     let w = sheetOf b in
-    let claims = claimed b (open′ .accepted) in
+    let claims = sales-hold b (open′ .accepted) in
     let rounds : r .rounds ≡ length (saleSets w) = ap (λ (s : Sale). s .rounds) (open′ .answer) in
     record {
       claimed = claims;

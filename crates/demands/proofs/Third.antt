@@ -4,15 +4,11 @@ use mathlib.Core.Path.{_≡_, refl, sym, ap, subst, _∙_}
 use mathlib.Core.Logic.{_≢_, _⊎_}
 use mathlib.Core.List.{List, []}
 use Prim.Native.Nat.{ℕ, zero, suc, _+_, _-_, _^_, _≤_, _<_}
-use native.Mathlib.Nat.{zero-add}
 use native.Mathlib.Omega.{arith}
-use native.Mathlib.Decide.{decLt}
-use lib.ListN.{length, take, getD, replicate, length-append, List·getD-eq-default}
-use lib.Seq.{take-length, take-at, getD-append-add}
-use borrow.Author.Tests.{le-ltb}
+use lib.ListN.{length}
 use Rattle.theory.specs.Sums.{Among}
-use Rattle.theory.specs.Lists.{keep, tabulate}
-use Rattle.theory.proofs.Lists.{most-upper, most-reached, most-subset, tabulate-at, tabulate-length, zeros-at}
+use Rattle.theory.specs.Lists.{keep}
+use Rattle.theory.proofs.Lists.{most-upper, most-reached, most-subset}
 use Rattle.owners.specs.Owners.{ComesBefore, lacks, bundleFrom, single, zeroFirst}
 use Rattle.owners.specs.Prices.{plain}
 use Rattle.owners.specs.Sales.{Third}
@@ -22,9 +18,9 @@ use Rattle.owners.proofs.Singles.{sale-third, sale-ties, direct-no-gain, worth-
 use Rattle.sheet.specs.Sheets.{Sheet, asSheet, sheetOf}
 use Rattle.sheet.specs.Questions.{sheetFault}
 use Rattle.totals.specs.Walks.{four}
-use Rattle.totals.specs.Seats.{seat, seats}
+use Rattle.totals.specs.Seats.{seats}
 use Rattle.totals.specs.Words.{worthOf, allocations, market, totalOf, greatestWithout}
-use Rattle.totals.proofs.Seats.{seats-at, seats-same, bundle-padded}
+use Rattle.totals.proofs.Seats.{seats-at, seats-same, seats-past, four-short, four-past, four-bundle}
 use Rattle.sale.specs.declared.Sale.{Sale}
 use Rattle.sale.specs.Words.{priceAt}
 use Rattle.sale.specs.Rounds.{roundLimit, lastPrices, ownersBy, discountFor, paymentFor}
@@ -39,31 +35,10 @@ use Rattle.demands.specs.Claims.{Allocation, bundleIn, numberIn, Greates
 use Rattle.sale.proofs.Opening.{sale-open}
 use Rattle.direct.proofs.Opening.{direct-open, direct-number}
 
--- an answer's places: four for the owners, six for the buyers
-four-short : (a : List ℕ) (n : ℕ) → length a ≡ n → take n (four a) ≡ a
-four-short a n e = take-at a (replicate (4 - length a) 0) n e
-
-four-past : (a : List ℕ) (j : ℕ) → length a ≤ j → getD (four a) j 0 ≡ 0
-four-past a j h =
-    let e : length a + (j - length a) ≡ j = omega arith in
-    ap (λ k. getD (four a) k 0) (sym e) ∙ getD-append-add a (replicate (4 - length a) 0) (j - length a) 0 ∙ zeros-at (4 - length a) (j - length a)
-
-four-bundle : (a : List ℕ) (i : ℕ) → 1 ≤ i → bundleIn i (four a) ≡ bundleFrom single 0 i a
-four-bundle a i h =
-    ap (bundleFrom single 0 i) (sym (take-length (four a)))
-    ∙ bundle-padded 0 i (length (four a)) (4 - length a) a (omega (arith, length-append a (replicate (4 - length a) 0))) (λ z. omega arith)
-
+-- a buyer's number among six
 seat-in : (m : ℕ) (f : ℕ → ℕ) (i : ℕ) → m ≤ 6 → Among m 1 i → numberIn i (seats m f) ≡ f i
 seat-in m f zero few r = absurd (omega arith)
 seat-in m f (suc k) few r = let e : suc k - 1 ≡ k = omega arith in rw e (seats-at m f k few (omega arith))
-
-seat-past : (m : ℕ) (f : ℕ → ℕ) (i : ℕ) → m < i → numberIn i (seats m f) ≡ 0
-unfolding seats
-seat-past m f i h =
-    elim (decLt (i - 1) 6) [
-      | yes l ↦ tabulate-at 6 0 (seat m f) (i - 1) 0 l ∙ rw (zero-add (i - 1), le-ltb (i - 1) m (omega arith)) refl
-      | no l ↦ List·getD-eq-default (tabulate 6 0 (seat m f)) 0 {n = i - 1} (omega (arith, tabulate-length 6 0 (seat m f)))
-    ]
 
 -- an accepted sheet
 module _ (b : List ℕ) (accepted : sheetFault b .number ≡ 0) where
@@ -155,7 +130,7 @@ module _ (b : List ℕ) (accepted : sheetFault b .number ≡ 0) where
         payments = by-seat _ (λ k h.
             let r : Among m 1 (suc k) = omega arith in
             (greatestWithout w (suc k), greatest k, rw (due-in (suc k) r, bundle-is (suc k) r) (pays k h)));
-        absent = λ i h. seat-past m (directPayment w) i h;
+        absent = λ i h. seats-past m (directPayment w) (i - 1) (omega arith);
         bounded = bound;
       }
 

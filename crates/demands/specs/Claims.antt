@@ -9,7 +9,7 @@ use Rattle.theory.specs.Lists.{_∈_}
 use Rattle.owners.specs.Owners.{ComesBefore, bundleFrom, single}
 use Rattle.sheet.specs.Sheets.{Sheet, sheetOf}
 use Rattle.sheet.specs.Questions.{fault}
-use Rattle.sheet.specs.Claims.{Question}
+use Rattle.sheet.specs.Claims.{Question, Placed}
 use Rattle.sheet.specs.Answers.{refusal, worthsRead, sheetRead}
 use Rattle.totals.specs.Words.{worthOf, totalOf}
 use Rattle.sale.specs.declared.Sale.{Sale}
@@ -28,12 +28,14 @@ pub record Numbered (b : List ℕ) (own : ℕ) (Own : Type 0) (number place : �
   pub range : (number ≤ 8) ⊎ ((number ≡ own) × (Own → ⊥))
   pub no-place : (number < 6) ⊎ (8 < number) → place ≡ 0
   pub a-place : 6 ≤ number → number ≤ 8 → (13 ≤ place) × (place < length b)
+  pub least-place : Placed b number place
 
 pub record Demand-1 : Type 0 where
   -- reading, which has no question of its own: none can get a no
   pub reads : (b : List ℕ) → let r = sheetRead b in Numbered b 9 (Unit {0}) (r .number) (r .place)
   pub reads-worths : (b : List ℕ) → let r = worthsRead b in Numbered b 9 (Unit {0}) (r .number) (r .place)
-  pub reads-refused : (b : List ℕ) → let r = worthsRead b in r .number ≢ 0 → r ≡ refusal (r .number) (r .place)
+  pub reads-refused : (b : List ℕ) → let r = sheetRead b in r .number ≢ 0 → r ≡ record { number = r .number; place = r .place; buyers = 0; lots = 0 }
+  pub reads-worths-refused : (b : List ℕ) → let r = worthsRead b in r .number ≢ 0 → r ≡ refusal (r .number) (r .place)
   -- a demand answer
   pub demands : (b : List ℕ) (i : ℕ) (ps : List ℕ) → let r = demandAnswer b i ps in Numbered b 10 (Among (sheetOf b .buyers) 1 i) (r .number) (r .place)
   pub demands-refused : (b : List ℕ) (i : ℕ) (ps : List ℕ) → let r = demandAnswer b i ps in r .number ≢ 0 → r ≡ refusedDemand (fault (r .number) (r .place))

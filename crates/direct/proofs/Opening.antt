@@ -1,11 +1,14 @@
--- The direct way that accepts (`direct-open`), and that refuses (`direct-closed`). Assumes nothing.
+-- The direct way's number and place (`direct-number`, `direct-place`), where it accepts (`direct-open`), and where it
+-- refuses (`direct-closed`). Assumes nothing.
 use mathlib.Core.Path.{_≡_, refl, sym, ap, _∙_}
 use mathlib.Core.Logic.{_≢_}
 use mathlib.Core.List.{List}
 use Prim.Native.Nat.{ℕ}
+use native.Mathlib.Omega.{arith}
 use Rattle.sheet.specs.Sheets.{sheetOf}
 use Rattle.sheet.specs.Questions.{fault, sheetFault}
-use Rattle.sheet.proofs.Forms.{Form, told, told-number, told-yes, told-again}
+use Rattle.sheet.proofs.Theorems.{place-zero}
+use Rattle.sheet.proofs.Forms.{Form, told, told-number, told-place, told-yes, told-again}
 use Rattle.direct.specs.declared.Direct.{Direct}
 use Rattle.direct.specs.Answers.{refusedDirect, reckoned, directAnswer}
 
@@ -23,7 +26,7 @@ directForm b =
       place-no = λ g. refl;
     }
 
--- the direct way that accepts
+-- an answer of the direct way
 module _ (b : List ℕ) (d : Direct) (e : d ≡ directAnswer b) where
   pub direct-told : d ≡ told (directForm b) (sheetFault b)
   unfolding directAnswer directForm
@@ -32,6 +35,12 @@ module _ (b : List ℕ) (d : Direct) (e : d ≡ directAnswer b) where
   pub direct-number : d .number ≡ sheetFault b .number
   unfolding directForm
   direct-number = ap (λ (s : Direct). s .number) direct-told ∙ told-number (directForm b) (sheetFault b)
+
+  pub direct-place : d .place ≡ sheetFault b .place
+  unfolding directForm
+  direct-place =
+      ap (λ (s : Direct). s .place) direct-told
+      ∙ told-place (directForm b) (sheetFault b) (λ z. place-zero b (omega arith))
 
   pub direct-open : d .number ≡ 0 → (sheetFault b .number ≡ 0) × (d ≡ reckoned (sheetOf b))
   unfolding directForm

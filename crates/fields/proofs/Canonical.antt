@@ -4,18 +4,18 @@ use mathlib.Core.Path.{_≡_, refl, sym, ap, subst, _∙_}
 use mathlib.Core.Logic.{_↔_}
 use mathlib.Core.List.{List, [], _∷_}
 use Prim.Native.Nat.{ℕ, zero, suc, _+_, _-_, _*_, _/_, _%_, _^_, _≤_, _<_}
-use native.Mathlib.Nat.{pow-succ', one-le-pow, one-mul, mul-assoc, mul-left-comm, div-lt-iff-lt-mul, le-div-iff-mul-le}
-use native.Mathlib.Nat.{div-add-mod', mul-add-div-right, mod-lt, mod-mod-of-dvd, dvd-mul-left}
 use native.Mathlib.Omega.{arith}
 use native.Mathlib.Decide.{ℕ-discrete, decLe}
-use lib.Dec.{leb, ltb, lit<}
+use lib.Dec.{ltb}
 use lib.ListN.{length, take, drop, length-take, length-drop}
-use borrow.Author.Tests.{ltb-true, ltb-false, le-leb, lt-ltb, le-ltb}
+use borrow.Author.Tests.{ltb-true, ltb-false, le-ltb}
 use Rattle.theory.proofs.Tests.{by-test}
 use Rattle.fields.specs.declared.Field.the-variants.{Number, Faulty}
 use Rattle.fields.specs.Fields.{classOf, digitsFrom, fieldFrom, fieldAt, digits, columns}
 use Rattle.fields.specs.Fields.Class.{Foreign}
 use Rattle.fields.proofs.Scan.{class-digit, class-low, class-high}
+use Rattle.fields.proofs.Digits.{digit-small, digit-some, next-small, next-digit, other-digits}
+use Rattle.fields.proofs.Digits.{columns-blank, columns-full}
 
 -- a byte is a blank, a digit, or foreign
 by-class : (P : ℕ → Type 0) (b : ℕ) → P 32 → ((d : ℕ) → d < 10 → P (48 + d)) → (classOf b ≡ Foreign → P b) → P b
@@ -35,30 +35,6 @@ by-class P b blank digit foreign =
 
 pub no-number : {P : Type 0} {at v : ℕ} → Faulty at ≡ Number v → P
 no-number e = absurd (let z : _≡_ {A = ℕ} 0 1 = cc in omega arith)
-
--- digits by division
-positive : (k : ℕ) → 1 ≤ 10 ^ k
-positive k = one-le-pow k 10 (lit< tt)
-
-digit-small : (k w : ℕ) → (w / 10 ^ k < 10) ↔ (w < 10 ^ suc k)
-digit-small k w = rw pow-succ' (div-lt-iff-lt-mul (positive k))
-
-digit-some : (k w : ℕ) → (1 ≤ w / 10 ^ k) ↔ (10 ^ k ≤ w)
-digit-some k w = rw one-mul at (le-div-iff-mul-le {x = 1} {y = w} (positive k))
-
--- one more of the last digits
-module _ (k w : ℕ) where
-  next-small : w % 10 ^ suc k / 10 ^ k < 10
-  next-small = digit-small k (w % 10 ^ suc k) .1 (mod-lt w (positive (suc k)))
-
-  next-digit : 10 * (w / 10 ^ suc k) + w % 10 ^ suc k / 10 ^ k ≡ w / 10 ^ k
-  next-digit =
-      let q = w / 10 ^ suc k in
-      let whole : 10 * q * 10 ^ k + w % 10 ^ suc k ≡ w = rw (mul-assoc, mul-left-comm 10 q (10 ^ k), ← pow-succ') (div-add-mod' w (10 ^ suc k)) in
-      sym (mul-add-div-right (positive k) (10 * q) (w % 10 ^ suc k)) ∙ ap (λ x. x / 10 ^ k) whole
-
-  other-digits : w % 10 ^ suc k % 10 ^ k ≡ w % 10 ^ k
-  other-digits = mod-mod-of-dvd (10 ^ k) w (rw pow-succ' (dvd-mul-left (10 ^ k) 10))
 
 -- one digit, after others and as the first
 digit-late : (at v d : ℕ) (bs : List ℕ) → d < 10 → digitsFrom at v ((48 + d) ∷ bs) ≡ digitsFrom at (10 * v + d) bs
@@ -86,13 +62,6 @@ digits-written at v w (b ∷ bs) =
     let last : w % 10 ^ suc k / 10 ^ k ≡ d = omega (arith, next-digit k w, next-small k w) in
     (omega (arith, next-digit k w), rw (last, other-digits k w) (ap (λ l. (48 + d) ∷ l) same)))
     (λ c e. no-number (rw (digitsFrom, c) at e))
-
--- a number in k + 1 columns: after a blank, and with all its digits
-columns-blank : (k w : ℕ) → 1 ≤ k → w < 10 ^ k → columns (suc k) w ≡ 32 ∷ columns k w
-columns-blank k w some small = rw (le-leb 1 k some, lt-ltb w (10 ^ k) small)
-
-columns-full : (k w : ℕ) → 10 ^ k ≤ w → columns (suc k) w ≡ digits (suc k) w
-columns-full k w full = by-test (leb 1 k) (λ e. rw (e, le-ltb w (10 ^ k) full)) (λ e. rw e)
 
 full-read : (at k w : ℕ) → 10 ^ k ≤ w → w < 10 ^ suc k → fieldFrom at (columns (suc k) w) ≡ Number w
 full-read at k w full small =

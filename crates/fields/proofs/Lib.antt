@@ -1,4 +1,6 @@
--- Laws of fields: how they are read column by column (Scan), in which columns a number is written (Canonical), and of written lines (Lines).
+-- Laws of fields: how they are read column by column (Scan), the digits of a number (Digits), in which columns it is
+-- written (Canonical), and of written lines (Lines).
 pub mod Scan
+pub mod Digits
 pub mod Canonical
 pub mod Lines

@@ -1,13 +1,14 @@
--- Laws of written numbers: how long columns, fields and lines are, and where a field (`fields-drop`) and a line (`lines-drop`) stands among those before it.
--- Assumes nothing.
+-- Laws of written numbers: how long columns, fields and lines are, where a field (`fields-drop`) and a line
+-- (`lines-drop`) stands among those before it, and where a line ends (`end-means`). Assumes nothing.
 use mathlib.Core.Path.{_≡_, refl, sym, ap, _∙_}
+use mathlib.Core.Logic.{_↔_}
 use mathlib.Core.Bool.{_&&_}
 use mathlib.Core.List.{List, [], _∷_, _++_, append-assoc}
 use Prim.Native.Nat.{ℕ, zero, suc, _+_, _-_, _*_, _%_, _^_, _≤_}
 use native.Mathlib.Nat.{mul-suc, suc-mul}
 use native.Mathlib.Omega.{arith}
 use lib.Dec.{leb, ltb}
-use lib.ListN.{length, drop, length-append}
+use lib.ListN.{length, take, drop, getD, length-append}
 use lib.Seq.{drop-drop, drop-at}
 use Rattle.theory.specs.Lists.{tabulate}
 use Rattle.theory.proofs.Tests.{by-test}
@@ -75,3 +76,10 @@ module _ (f : ℕ → List ℕ) (wide : ℕ) (each : (i : ℕ) → length (lineO
       let j : s + suc c ≡ suc s + c = omega arith in
       rw (more, i, j)
       (sym (drop-drop (c * wide) wide (lineOf (f s) ++ ls)) ∙ ap (drop (c * wide)) (drop-at (lineOf (f s)) ls wide (each s)) ∙ lines-drop k (suc s) c (omega arith))
+
+-- a line end as one byte of a list, and as its entry
+pub end-means : (b : List ℕ) (at : ℕ) → (take 1 (drop at b) ≡ 10 ∷ []) ↔ (getD b at 0 ≡ 10)
+end-means (x ∷ b) zero = (λ e. ap (λ l. getD l 0 0) e, λ e. ap (λ y. y ∷ []) e)
+end-means (x ∷ b) (suc at) = end-means b at
+end-means [] zero = (λ e. ap (λ l. getD l 0 0) e, λ e. absurd (omega arith))
+end-means [] (suc at) = (λ e. ap (λ l. getD l 0 0) e, λ e. absurd (omega arith))

@@ -1,13 +1,16 @@
--- Bundles as bit sets: worths that do not fall when one lot is added do not fall when several are, for any number of lots (`subset-monotone`).
--- By halving: first the lots but the lowest, then the lowest. Assumes nothing.
+-- Bundles as bit sets: worths that do not fall when one lot is added do not fall when several are, for any number of
+-- lots (`subset-monotone`). By halving: first the lots but the lowest, then the lowest. So two numbers with the same
+-- bits are equal (`bits-same`). Assumes nothing.
 use mathlib.Core.Path.{_≡_, sym, ap, _∙_}
 use mathlib.Core.Bool.{true}
 use Prim.Native.Nat.{ℕ, zero, suc, _+_, _-_, _*_, _/_, _%_, _^_, _≤_, _<_}
 use native.Mathlib.Nat.{div-div-eq-div-mul, le-div-iff-mul-le, one-le-pow, pow-succ'}
 use native.Mathlib.Omega.{arith}
-use native.Mathlib.Decide.{ℕ-discrete}
+use native.Mathlib.Decide.{ℕ-discrete, decLt}
 use lib.Dec.{lit<}
+use lib.Pow.{pow-mono}
 use borrow.Author.Tests.{eqb-true, eqb-false, eq-eqb}
+use Rattle.theory.specs.Sums.{when}
 use Rattle.theory.proofs.Tests.{by-test}
 use Rattle.numbers.specs.Numbers.{bit}
 
@@ -18,6 +21,18 @@ pub bit-le : (j x : ℕ) → bit j x ≡ true → 2 ^ j ≤ x
 bit-le j x b =
     let one : 1 ≤ x / 2 ^ j = omega (arith, eqb-true (x / 2 ^ j % 2) 1 b) in
     omega (arith, le-div-iff-mul-le (one-le-pow j 2 (lit< tt)) .0 one)
+
+-- a number below 2 ^ n has none but its first n bits
+pub bit-below : (n j x : ℕ) → x < 2 ^ n → bit j x ≡ true → j < n
+bit-below n j x h b =
+    elim (decLt j n) [ yes l ↦ l | no l ↦ absurd (omega (arith, bit-le j x b, pow-mono {i = n} {j = j} (omega arith))) ]
+
+-- a bit as a number
+pub one-bit : (j x : ℕ) → when (bit j x) 1 ≡ x / 2 ^ j % 2
+one-bit j x =
+    by-test (bit j x)
+    (λ b. rw b (omega (arith, eqb-true (x / 2 ^ j % 2) 1 b)))
+    (λ b. rw b (omega (arith, eqb-false (x / 2 ^ j % 2) 1 b)))
 
 lowest-le : (s t : ℕ) → (bit 0 s ≡ true → bit 0 t ≡ true) → s % 2 ≤ t % 2
 lowest-le s t h =
@@ -43,3 +58,9 @@ subset-monotone (suc n) w step s t k sub h =
           let less : t - 2 ^ 0 ≡ s % 2 + 2 * (t / 2) = omega arith in
           omega (arith, ap w whole, ap w less, step 0 t (omega arith) k (eq-eqb (t / 1 % 2) 1 (omega arith)))
     ]
+
+pub bits-same : (n s t : ℕ) → s < 2 ^ n → t < 2 ^ n → ((j : ℕ) → j < n → bit j s ≡ bit j t) → s ≡ t
+bits-same n s t h g e =
+    let le : (s t : ℕ) → s < 2 ^ n → t < 2 ^ n → ((j : ℕ) → j < n → bit j s ≡ true → bit j t ≡ true) → s ≤ t =
+    λ s t h g sub. subset-monotone n (λ x. x) (λ j x _ _ _. omega arith) s t g sub h in
+    omega (arith, le s t h g (λ j l b. sym (e j l) ∙ b), le t s g h (λ j l b. e j l ∙ b))

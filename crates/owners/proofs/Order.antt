@@ -1,9 +1,11 @@
--- The owner lists stand in the order that their owners have, by the first lot at which two differ (`allocations-ordered`). Assumes nothing.
-use mathlib.Core.Path.{refl, sym, subst, subst₂}
+-- The owner lists stand in the order that their owners have, by the first lot at which two differ
+-- (`allocations-ordered`); which lot that is (`comes-before`). Assumes nothing.
+use mathlib.Core.Path.{_≡_, refl, sym, ap, subst, subst₂}
 use mathlib.Core.Logic.{inl, inr}
 use mathlib.Core.List.{List, [], _∷_, List·Memᴰ·not-nil}
 use Prim.Native.Nat.{ℕ, zero, suc, _<_}
 use native.Mathlib.Omega.{arith}
+use lib.ListN.{length, take, getD}
 use Rattle.theory.specs.Lists.{Ordered, upTo}
 use Rattle.theory.proofs.Lists.{ordered-append, upTo-from}
 use Rattle.owners.specs.Owners.{withOwner, spread, allocations, ComesBefore}
@@ -27,6 +29,16 @@ module _ (earlier : ℕ → ℕ → Type 0) where
   pub allocations-ordered : (os : List ℕ) → Ordered earlier os → (n : ℕ) → Ordered (ComesBefore earlier) (allocations os n)
   allocations-ordered os o zero = (λ a m. absurd (List·Memᴰ·not-nil m), tt)
   allocations-ordered os o (suc n) = spread-ordered os (allocations os n) o (allocations-ordered os o n)
+
+-- the first lot at which two lists differ
+pub comes-before : (earlier : ℕ → ℕ → Type 0) (x y : List ℕ) → ComesBefore earlier x y →
+    (j : ℕ) × (j < length x) × (take j y ≡ take j x) × earlier (getD x j 0) (getD y j 0)
+comes-before earlier [] y c = absurd c
+comes-before earlier (o ∷ x) [] c = absurd c
+comes-before earlier (o ∷ x) (p ∷ y) (inl h) = (0, omega arith, refl, h)
+comes-before earlier (o ∷ x) (p ∷ y) (inr (e, c)) =
+    let (j, h, same, less) = comes-before earlier x y c in
+    (suc j, omega arith, rw e (ap (λ l. p ∷ l) same), less)
 
 pub first-ordered : (k s : ℕ) → Ordered _<_ (upTo k s)
 first-ordered zero s = tt

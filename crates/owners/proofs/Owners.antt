@@ -1,5 +1,6 @@
--- Which owner lists there are (`allocation-in`, `allocation-from`), what a buyer holds in one (`bundle-lacks`, `bundle-none`), and what is left of one
--- when owners are dropped and their lots `given` away. Assumes nothing.
+-- Which owner lists there are (`allocation-in`, `allocation-from`), what a buyer holds in one (`bundle-lacks`,
+-- `bundle-none`, `bundle-past`), and what is left of one when owners are dropped and their lots `given` away. Assumes
+-- nothing.
 use mathlib.Core.Path.{_≡_, refl, sym, ap, subst, _∙_}
 use mathlib.Core.Logic.{_≢_, _⊎_, inl, inr}
 use mathlib.Core.Bool.{Bool, true, false, not, _&&_, and-false}
@@ -9,7 +10,8 @@ use mathlib.Core.List.{Memᴰ·cast, List·Memᴰ·append-cases, Memᴰ·append-
 use Prim.Native.Nat.{ℕ, zero, suc, _+_, _≤_}
 use native.Mathlib.Omega.{arith}
 use lib.Dec.{eqb}
-use lib.ListN.{length, replicate}
+use lib.ListN.{length, take, getD, replicate}
+use lib.Seq.{take-nil}
 use borrow.Author.Tests.{eqb-true, eq-eqb, ne-eqb}
 use Rattle.theory.specs.Sums.{pick, when}
 use Rattle.theory.specs.Lists.{_∈_, keep}
@@ -72,6 +74,16 @@ bundle-none share some j i (o ∷ a) h =
     by-test (eqb o i)
     (λ e. let z : share j + bundleFrom share (suc j) i a ≡ 0 = rw e at h in absurd (omega (arith, some j)))
     (λ e. rw e (bundle-none share some (suc j) i a (omega (arith, rw e at h))))
+
+-- places of nobody change no buyer's bundle
+pub bundle-past : (share : ℕ → ℕ) (j i n : ℕ) (os : List ℕ) → 1 ≤ i → ((k : ℕ) → n ≤ k → getD os k 0 ≡ 0) →
+    bundleFrom share j i (take n os) ≡ bundleFrom share j i os
+bundle-past share j i n [] some h = ap (bundleFrom share j i) (take-nil n)
+bundle-past share j i zero (o ∷ os) some h =
+    let other = ne-eqb o i (λ e. omega (arith, h 0 (omega arith))) in
+    rw other (omega (arith, bundle-past share (suc j) i 0 os some (λ k l. h (suc k) (omega arith))))
+bundle-past share j i (suc n) (o ∷ os) some h =
+    ap (λ x. when (eqb o i) (share j) + x) (bundle-past share (suc j) i n os some (λ k l. h (suc k) (omega arith)))
 
 -- a list with the lots of some owners given to k: only those that pass keep theirs
 abbrev pub given : (ℕ → Bool) → ℕ → List ℕ → List ℕ

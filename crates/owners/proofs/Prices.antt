@@ -1,30 +1,46 @@
--- A list of prices that `Holds` a sale's payoffs quotes as they do (`best-is`, `wants-same`, `keen-same`), and a round raises it as it lowers them
--- (`raised-holds`). At any `Fair` prices the answers are by payoffs (`quote-answers`). Assumes bidders with seats and an empty bundle of no worth.
-use mathlib.Core.Path.{_≡_, sym, ap, _∙_}
+-- A list of prices that `Holds` a sale's payoffs quotes as they do (`best-is`, `wants-same`, `keen-same`), and a round
+-- raises it as it lowers them (`raised-holds`); places that nobody reads (`unread`) keep what they hold
+-- (`raised-unread`). At any `Fair` prices the answers are by payoffs (`quote-answers`). Assumes bidders with seats and
+-- an empty bundle of no worth.
+use mathlib.Core.Path.{_≡_, refl, sym, ap, _∙_}
+use mathlib.Core.Logic.{_⊎_, inl, inr}
 use mathlib.Core.Bool.{Bool, true, false, not, _&&_}
 use mathlib.Core.List.{List}
-use Prim.Native.Nat.{ℕ, suc, _+_, _-_, _*_, _/_, _≤_, _<_}
+use Prim.Native.Nat.{ℕ, suc, _+_, _-_, _*_, _/_, _%_, _≤_, _<_}
 use native.Mathlib.Nat.{zero-add}
 use native.Mathlib.Omega.{arith}
 use native.Mathlib.Decide.{ℕ-discrete}
 use lib.Dec.{eqb, ltb, leb}
-use lib.ListN.{getD, getD-replicate}
-use borrow.Author.Tests.{le-leb, lt-ltb, ne-eqb}
+use lib.ListN.{length, getD, getD-replicate}
+use borrow.Author.Tests.{le-leb, lt-leb, lt-ltb, le-ltb, ltb-true, ne-eqb}
 use Rattle.theory.specs.Sums.{when}
 use Rattle.theory.specs.Lists.{upTo}
 use Rattle.theory.specs.Markets.{Market, Table, Bidder, asks, lower}
 use Rattle.theory.specs.Auction.{own}
 use Rattle.theory.specs.Universal.{Answers}
 use Rattle.theory.proofs.Tests.{by-test, same-test, not-means, means-via, eqb-means, leb-means}
-use Rattle.theory.proofs.Lists.{most-same, most-upper, most-reached, upTo-in, upTo-from, tabulate-at}
+use Rattle.theory.proofs.Lists.{most-same, most-upper, most-reached, upTo-in, upTo-from, tabulate-at, tabulate-length}
 use Rattle.theory.proofs.Ascent.{asks-best, asks-raised}
-use Rattle.owners.specs.Prices.{Seats, zeros, price, payoff, best, quote, Fair, Holds, Priced, read, raisedAt, raised}
+use Rattle.owners.specs.Prices.{Seats, plain, zeros, price, payoff, best, quote, Fair, Holds, Priced}
+use Rattle.owners.specs.Prices.{read, raisedAt, raised}
 
 -- prices up to 65,535 are fair; and so are a sale's own
 pub small-fair : {A : Type 0} (M : Market A) (S : Seats) (all : ℕ) (v : Table) (ps : List ℕ) → ((k : ℕ) → getD ps k 0 ≤ 65535) → Fair S M all v ps
 small-fair M S all v ps small i r s h = by-test (eqb s 0) (λ e. rw e (omega arith)) (λ e. rw e (omega (arith, small (16 * S .seat i + s))))
 
--- other places keep what they hold
+-- a place of an absent buyer, of the empty bundle or of an absent one
+pub unread : (m all k : ℕ) → (m ≤ k / 16) ⊎ ((k % 16 ≡ 0) ⊎ (all ≤ k % 16)) → read (plain m) all k ≡ false
+unread m all k none =
+    let s = k - 16 * (k / 16) in
+    by-test (ltb (k / 16) m)
+    (λ t. elim none [
+      | inl h ↦ absurd (omega (arith, ltb-true (k / 16) m t))
+      | inr (inl h) ↦ rw (t, lt-leb 1 s (omega arith)) refl
+      | inr (inr h) ↦ by-test (leb 1 s) (λ u. rw (t, u, le-ltb s all (omega arith)) refl) (λ u. rw (t, u) refl)
+    ])
+    (λ t. rw t refl)
+
+-- such places keep what they hold
 pub raised-unread : (S : Seats) (all : ℕ) (v : Table) (set : ℕ → Bool) (ps : List ℕ) (k : ℕ) →
     k < 16 * S .rows → read S all k ≡ false → getD (raised S all v set ps) k 0 ≡ getD ps k 0
 raised-unread S all v set ps k h e =
@@ -35,6 +51,9 @@ raised-unread S all v set ps k h e =
     (λ q. let r : ltb (k - 16 * (k / 16)) all ≡ false = rw (p, q) at e in rw (p, q, r) (omega arith))
     (λ q. rw (p, q) (omega arith)))
     (λ p. rw p (omega arith)))
+
+pub raised-long : (S : Seats) (all : ℕ) (v : Table) (set : ℕ → Bool) (ps : List ℕ) → length (raised S all v set ps) ≡ 16 * S .rows
+raised-long S all v set ps = tabulate-length (16 * S .rows) 0 (λ k. raisedAt S all v set ps k (k / 16) (k - 16 * (k / 16)))
 
 pub holds-fair : {A : Type 0} (M : Market A) (S : Seats) (all top : ℕ) (v : Table) (ps : List ℕ) (π : ℕ → ℕ) → Holds M S all top v ps π → Fair S M all v ps
 holds-fair M S all top v ps π holds i r s h = omega (arith, holds .prices i r s h)

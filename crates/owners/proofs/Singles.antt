@@ -1,16 +1,19 @@
--- Single lots of which some may stay unsold, at most four, among at most six buyers. They make a `Hall` (`singles`), for any order of the owners.
--- So demands 2 and 3 hold of document 01's sale (`sale-second`, `sale-third`), ties go to the list that comes first (`sale-ties`), and no buyer
--- gains by other worths than its true ones (`direct-no-gain`). Assumes worths of which all lots together have the most.
+-- Single lots of which some may stay unsold, at most four, among at most six buyers. A bundle's bits are the lots that
+-- its buyer owns (`bundle-bit`). The lots make a `Hall` (`singles`), for any order of the owners. So demands 2 and 3
+-- hold of document 01's sale (`sale-second`, `sale-third`), ties go to the list that comes first (`sale-ties`), and no
+-- buyer gains by other worths than its true ones (`direct-no-gain`). Assumes worths of which all lots together have the
+-- most.
 use mathlib.Core.Path.{_≡_, refl, ap, _∙_}
 use mathlib.Core.Logic.{_≢_, _⊎_}
+use mathlib.Core.Bool.{Bool, true, false}
 use mathlib.Core.List.{List, [], _∷_}
-use Prim.Native.Nat.{ℕ, suc, _+_, _-_, _*_, _^_, _≤_, _<_}
-use native.Mathlib.Nat.{add-zero, zero-add}
+use Prim.Native.Nat.{ℕ, zero, suc, _+_, _-_, _*_, _^_, _≤_, _<_}
+use native.Mathlib.Nat.{add-zero, zero-add, pow-succ'}
 use native.Mathlib.Omega.{arith}
 use lib.Dec.{eqb}
-use lib.ListN.{length}
+use lib.ListN.{length, getD}
 use lib.Pow.{pow-pos, pow-mono}
-use Rattle.theory.specs.Sums.{Among}
+use Rattle.theory.specs.Sums.{when, Among}
 use Rattle.theory.specs.Lists.{_∈_, Ordered, most, keep}
 use Rattle.theory.specs.Markets.{Table, total}
 use Rattle.theory.specs.Auction.{Auction, direct, Buyer, start, whole}
@@ -18,13 +21,15 @@ use Rattle.theory.proofs.Tests.{by-test}
 use Rattle.theory.proofs.Sums.{sum-mono, sum-const}
 use Rattle.theory.proofs.Lists.{keep-from, upTo-in}
 use Rattle.theory.proofs.Settled.{direct-first}
+use Rattle.numbers.specs.Numbers.{bit}
+use Rattle.numbers.proofs.Subsets.{bit-half}
 use Rattle.owners.specs.Owners.{allocations, ComesBefore, bundleFrom, lacks, market, single, auction, member, zeroFirst}
 use Rattle.owners.specs.Prices.{plain, zeros}
 use Rattle.owners.specs.Sales.{limit, Worths, directOwners, directPayment, Second, Third, Hall}
 use Rattle.owners.specs.Singles.{worth, AtMost, Topped, sale, salePrices, saleChoice}
 use Rattle.owners.proofs.Owners.{allocation-from, some-allocation}
 use Rattle.owners.proofs.Order.{allocations-ordered, first-ordered}
-use Rattle.owners.proofs.Bits.{seats-ranked, ranked-numbered, plain-seated}
+use Rattle.owners.proofs.Bits.{half-of, low-bit, seats-ranked, ranked-numbered, plain-seated}
 use Rattle.owners.proofs.Economies.{economies-part, whole-in, lacking-in}
 use Rattle.owners.proofs.Ready.{sounds, leaves}
 use Rattle.owners.proofs.Sales as sales
@@ -38,6 +43,27 @@ bundle-below j i (o ∷ a) =
 
 pub singles-below : (n i : ℕ) (a : List ℕ) → length a ≡ n → bundleFrom single 0 i a < 2 ^ n
 singles-below n i a l = omega (arith, bundle-below 0 i a, ap single (zero-add (length a) ∙ l))
+
+-- a bundle's bits are the lots that its buyer owns: the first lot's, and twice the bundle of the others
+twice : (t : Bool) (j x y : ℕ) → x ≡ 2 * y → when t (2 ^ suc j) + x ≡ 2 * (when t (2 ^ j) + y)
+twice true j x y e = rw (pow-succ' 2 j) (omega arith)
+twice false j x y e = omega arith
+
+pub bundle-shift : (j i : ℕ) (a : List ℕ) → bundleFrom single (suc j) i a ≡ 2 * bundleFrom single j i a
+bundle-shift j i [] = refl
+bundle-shift j i (o ∷ a) =
+    twice (eqb o i) j (bundleFrom single (suc (suc j)) i a) (bundleFrom single (suc j) i a) (bundle-shift (suc j) i a)
+
+pub bundle-first : (i o : ℕ) (a : List ℕ) →
+    bundleFrom single 0 i (o ∷ a) ≡ when (eqb o i) 1 + 2 * bundleFrom single 0 i a
+bundle-first i o a = ap (λ x. when (eqb o i) 1 + x) (bundle-shift 0 i a)
+
+pub bundle-bit : (i : ℕ) (a : List ℕ) (k : ℕ) → k < length a → bit k (bundleFrom single 0 i a) ≡ eqb (getD a k 0) i
+bundle-bit i [] k h = absurd (omega arith)
+bundle-bit i (o ∷ a) zero h = ap (bit 0) (bundle-first i o a) ∙ low-bit (eqb o i) (bundleFrom single 0 i a)
+bundle-bit i (o ∷ a) (suc k) h =
+    ap (bit (suc k)) (bundle-first i o a) ∙ bit-half k (when (eqb o i) 1 + 2 * bundleFrom single 0 i a)
+    ∙ ap (bit k) (half-of (eqb o i) (bundleFrom single 0 i a)) ∙ bundle-bit i a k (omega arith)
 
 module _ (m n : ℕ) (few : m ≤ 6) (short : n ≤ 4) (os : List ℕ) (unsold : 0 ∈ os) where
   abbrev X : Auction (List ℕ)

@@ -3,20 +3,18 @@
 use mathlib.Core.Path.{_≡_, refl, sym, ap, subst, _∙_}
 use mathlib.Core.Logic.{_≢_, inl, inr}
 use mathlib.Core.Bool.{Bool}
-use mathlib.Core.List.{List, [], _∷_, List·Memᴰ·head as here, List·Memᴰ·tail as there}
-use Prim.Native.Nat.{ℕ, zero, suc, _-_, _^_, _≤_, _<_}
-use native.Mathlib.Nat.{zero-add}
+use mathlib.Core.List.{List}
+use Prim.Native.Nat.{ℕ, suc, _-_, _^_, _≤_, _<_}
 use native.Mathlib.Omega.{arith}
 use native.Mathlib.Decide.{decLt, decLe, ℕ-discrete}
 use lib.Dec.{leb}
-use lib.ListN.{length, take, getD, List·getD-eq-default}
+use lib.ListN.{length, take, getD}
 use lib.Seq.{getD-take}
-use borrow.Author.Tests.{lt-ltb, le-ltb, le-leb}
+use borrow.Author.Tests.{le-leb}
 use Rattle.theory.specs.Sums.{Among}
-use Rattle.theory.specs.Lists.{_∈_, tabulate}
 use Rattle.theory.specs.Markets.{total}
 use Rattle.theory.proofs.Sums.{sum-mono, sum-const}
-use Rattle.theory.proofs.Lists.{most-bound, tabulate-at, tabulate-length, zeros-at}
+use Rattle.theory.proofs.Lists.{most-bound, at-in, zeros-at}
 use Rattle.owners.specs.Owners.{zeroFirst}
 use Rattle.owners.specs.Prices.{plain, price}
 use Rattle.owners.proofs.Owners.{allocation-from}
@@ -28,8 +26,8 @@ use Rattle.sheet.proofs.Theorems.{refusal-range}
 use Rattle.sheet.proofs.Long.{most-bytes}
 use Rattle.sheet.proofs.Forms.{asked-first, asked-yes}
 use Rattle.totals.specs.Words.{allocations, market}
-use Rattle.totals.specs.Seats.{seat, seats}
-use Rattle.totals.proofs.Seats.{seats-at}
+use Rattle.totals.specs.Seats.{seats}
+use Rattle.totals.proofs.Seats.{seats-at, seats-past}
 use Rattle.sale.specs.declared.Sale.{Sale}
 use Rattle.sale.specs.Words.{priceAt, revenue}
 use Rattle.sale.specs.Rounds.{saleSets, lastPrices, discountFor, paymentFor, roundLimit}
@@ -43,15 +41,10 @@ use Rattle.demands.proofs.Third.{demand-3}
 use Rattle.printed.specs.Printed.{Printable}
 
 -- six places, each below a bound
-seats-small : (c m : ℕ) (f : ℕ → ℕ) → 0 < c → ((k : ℕ) → k < m → f (suc k) < c) → (k : ℕ) → getD (seats m f) k 0 < c
-unfolding seats
-seats-small c m f some h k =
-    elim (decLt k 6) [
-      | no l ↦ rw (List·getD-eq-default (tabulate 6 0 (seat m f)) 0 {n = k} (omega (arith, tabulate-length 6 0 (seat m f)))) some
-      | yes l ↦
-          rw (tabulate-at 6 0 (seat m f) k 0 l, zero-add k)
-          (elim (decLt k m) [ yes g ↦ rw (lt-ltb k m g) (h k g) | no g ↦ rw (le-ltb k m (omega arith)) some ])
-    ]
+seats-small : (c m : ℕ) (f : ℕ → ℕ) → m ≤ 6 → 0 < c → ((k : ℕ) → k < m → f (suc k) < c) →
+    (k : ℕ) → getD (seats m f) k 0 < c
+seats-small c m f few some h k =
+    elim (decLt k m) [ yes g ↦ rw (seats-at m f k few g) (h k g) | no g ↦ rw (seats-past m f k (omega arith)) some ]
 
 -- a settled sale
 module _ (b : List ℕ) (accepted : sheetFault b .number ≡ 0) where
@@ -94,11 +87,6 @@ module _ (b : List ℕ) (accepted : sheetFault b .number ≡ 0) where
       omega (arith, low, same)
 
 -- an owner is one of the buyers, or nobody
-get-in : (l : List ℕ) (j : ℕ) → j < length l → getD l j 0 ∈ l
-get-in [] j h = absurd (omega arith)
-get-in (x ∷ l) zero h = here refl
-get-in (x ∷ l) (suc j) h = there (get-in l j (omega arith))
-
 owner-small : (b o o′ : List ℕ) (r : Sale) → SaleSays b o o′ r → r .number ≡ 0 → sheetOf b .buyers ≤ 6 → (j : ℕ) → getD (r .owners) j 0 < 1000000
 owner-small b o o′ r says z few j =
     let w = sheetOf b in
@@ -110,7 +98,8 @@ owner-small b o o′ r says z few j =
     (elim (decLt j (w .lots)) [
       | yes h ↦
           let there = getD-take (w .lots) (d .owners) j 0 h in
-          omega (arith, there, owns (getD (take (w .lots) (d .owners)) j 0) (get-in (take (w .lots) (d .owners)) j (omega (arith, long))))
+          let os = take (w .lots) (d .owners) in
+          omega (arith, there, owns (getD os j 0) (at-in 0 os j (omega (arith, long))))
       | no h ↦ omega (arith, told .past j (omega arith))
     ])
 
@@ -131,8 +120,12 @@ settled-fits b o o′ r says z =
       prices =
           subst (λ (x : Sale). (i s : ℕ) → Among (x .buyers) 1 i → s < 2 ^ x .lots → price (plain 6) (x .prices) i s < 1000000) (sym e)
           (λ i s a h. omega (arith, cheap b yes′ i s a h));
-      discounts = λ k. rw e (seats-small 1000000 (w .buyers) (discountFor w (lastPrices w)) (omega arith) (discount-small b yes′) k);
-      payments = λ k. rw e (seats-small 1000000 (w .buyers) (paymentFor w (lastPrices w)) (omega arith) (payment-small b yes′ o o′ r says z e) k);
+      discounts = λ k. rw e
+          (seats-small 1000000 (w .buyers) (discountFor w (lastPrices w)) (shape b yes′ .few-buyers) (omega arith)
+          (discount-small b yes′) k);
+      payments = λ k. rw e
+          (seats-small 1000000 (w .buyers) (paymentFor w (lastPrices w)) (shape b yes′ .few-buyers) (omega arith)
+          (payment-small b yes′ o o′ r says z e) k);
     }
 
 -- a refused sale's place lies in a sheet of at most 559 bytes
@@ -168,15 +161,17 @@ refused-fits b o o′ r says n =
 pub prints-fit : (b o o′ : List ℕ) (r : Sale) → SaleSays b o o′ r → Printable r
 prints-fit b o o′ r says = elim (ℕ-discrete (r .number) 0) [ yes z ↦ settled-fits b o o′ r says z | no n ↦ refused-fits b o o′ r says n ]
 
+-- no sheet asks for more than 59,994 bytes of record
+pub limit-low : (b : List ℕ) → sheetFault b .number ≡ 0 → roundLimit (sheetOf b) ≤ 59994
+limit-low b z = limit-small (sheetOf b .buyers) (sheetOf b .lots) (shape b z .few-buyers) (sheetOf b .worths) (shape b z .small)
+
 -- with room for 59,994 rounds question 9 is answered yes
 module _ (b : List ℕ) (room : ℕ) (long : 59994 ≤ room) where
   abbrev x : Bool
   x = leb (roundLimit (sheetOf b)) room
 
   pub sale-asked : sheetFault b .number ≡ 0 → saleFault b room ≡ fault 0 0
-  sale-asked z =
-      let low = limit-small (sheetOf b .buyers) (sheetOf b .lots) (shape b z .few-buyers) (sheetOf b .worths) (shape b z .small) in
-      asked-yes 9 x (sheetFault b) z (le-leb (roundLimit (sheetOf b)) room (omega arith))
+  sale-asked z = asked-yes 9 x (sheetFault b) z (le-leb (roundLimit (sheetOf b)) room (omega (arith, limit-low b z)))
 
   pub sale-first : sheetFault b .number ≢ 0 → saleFault b room ≡ sheetFault b
   sale-first n = asked-first 9 x (sheetFault b) n

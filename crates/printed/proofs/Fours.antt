@@ -1,8 +1,13 @@
--- Four numbers, each below a bound (`four-small`). Assumes nothing.
+-- Two numbers, or four, each below a bound (`two-small`, `four-small`). Assumes nothing.
 use mathlib.Core.List.{[], _∷_}
 use Prim.Native.Nat.{ℕ, zero, suc, _<_}
 use lib.ListN.{getD}
 use native.Mathlib.Omega.{arith}
+
+pub two-small : (c a b : ℕ) → a < c → b < c → (k : ℕ) → getD (a ∷ b ∷ []) k 0 < c
+two-small c a b ha hb zero = ha
+two-small c a b ha hb (suc zero) = hb
+two-small c a b ha hb (suc (suc k)) = omega arith
 
 pub four-small : (c a b d e : ℕ) → a < c → b < c → d < c → e < c → (k : ℕ) → getD (a ∷ b ∷ d ∷ e ∷ []) k 0 < c
 four-small c a b d e ha hb hd he zero = ha

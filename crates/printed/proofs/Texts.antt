@@ -1,12 +1,12 @@
 -- The text of a sheet: it is what is printed of its sale with any record that is long enough (`any-record`), it has 13 to 227 bytes (`shortest`, `longest`), and it
--- depends on the first 560 bytes alone (`cut`). `text-told` and `text-within` are for the text as an answer. Assumes nothing.
+-- depends on the first 560 bytes alone (`cut`). All that is claimed of printing: `prints-all`. `text-told` and `text-within` are for the text as an answer. Assumes nothing.
 use mathlib.Core.Path.{_≡_, refl, sym, ap, ap₂, subst, _∙_}
-use mathlib.Core.Logic.{_≢_}
+use mathlib.Core.Logic.{_≢_, inl, inr}
 use mathlib.Core.List.{List, [], _∷_}
 use Prim.Native.Nat.{ℕ, _≤_}
 use native.Mathlib.Omega.{arith}
 use native.Mathlib.Decide.{decLe, ℕ-discrete}
-use lib.ListN.{length, take, drop, replicate, take-append-drop}
+use lib.ListN.{length, take, drop, replicate, take-append-drop, length-replicate}
 use lib.Seq.{take-all, length-take-le}
 use lib.Dec.{eqb}
 use borrow.Author.Tests.{eq-eqb, ne-eqb}
@@ -18,13 +18,17 @@ use Rattle.fields.proofs.Lines.{line-length}
 use Rattle.sheet.specs.Sheets.{Sheet, sheetOf}
 use Rattle.sheet.specs.Questions.{accepts, onward, sheetFault}
 use Rattle.sheet.specs.declared.Fault.{Fault}
+use Rattle.sheet.proofs.Faults.{all-yes}
 use Rattle.sheet.proofs.Long.{long-refused, long-alike}
 use Rattle.sale.specs.declared.Sale.{Sale}
-use Rattle.sale.specs.Answers.{settledSale, refusedSale, saleAnswer}
+use Rattle.sale.specs.Rounds.{roundLimit}
+use Rattle.sale.specs.Answers.{settledSale, refusedSale, saleAnswer, saleRecord, SaleSays}
 use Rattle.sale.proofs.Instance.{shape}
+use Rattle.sale.proofs.Opening.{sale-number}
+use Rattle.demands.proofs.First.{demand-1}
 use Rattle.printed.specs.declared.Text.{Text}
-use Rattle.printed.specs.Printed.{printed, settledText, refusedText, printedSale, Puts, PrintSays, textOf, Prints}
-use Rattle.printed.proofs.Fits.{sale-asked, sale-first, prints-fit, never-nine}
+use Rattle.printed.specs.Printed.{printed, settledText, refusedText, printedSale, Puts, PrintSays, PrintsSale, textOf, Prints}
+use Rattle.printed.proofs.Fits.{limit-low, sale-asked, sale-first, prints-fit, never-nine}
 use Rattle.printed.proofs.Parts.{text-length}
 
 printed-settled : (w : Sheet) → printed (settledSale w) ≡ settledText (settledSale w)
@@ -106,5 +110,71 @@ text-within b r e =
       over-long (printedSale b) (replicate 227 0) (omega (arith, longest b)),
     )
 
+-- demand 1
+refused-print : (b o o′ : List ℕ) (r : Sale) → SaleSays b o o′ r → r .number ≢ 0 → (printed r ≡ refusedText (r .number) (r .place)) × (o′ ≡ o)
+refused-print b o o′ r says n = (
+  ap (λ x. pick x (settledText r) (refusedText (r .number) (r .place))) (ne-eqb (r .number) 0 n),
+  demand-1 .sells-refused b o o′ r says n .1,
+)
+
+print-numbered : (b o o′ t t′ : List ℕ) (k : ℕ) → PrintSays b o o′ t t′ k →
+    (text : List ℕ) × PrintsSale b o o′ (roundLimit (sheetOf b) ≤ length o) text × Puts text t t′ k
+print-numbered b o o′ t t′ k says =
+    let r = saleAnswer b (length o) in
+    let sale : SaleSays b o o′ r = record { answer = refl; bytes = says .bytes } in (
+      printed r,
+      record {
+        answer = r;
+        says = sale;
+        numbered = demand-1 .sells b o o′ r sale;
+        text-is = refl;
+        refused = refused-print b o o′ r sale;
+      },
+      says .prints,
+    )
+
+-- with 59,994 bytes of record no sale is refused by question 9
+text-numbered : (b : List ℕ) → (o′ : List ℕ) × PrintsSale b (replicate 59994 0) o′ (Unit {0}) (printedSale b)
+text-numbered b =
+    let o : List ℕ = replicate 59994 0 in
+    let r = saleAnswer b (length o) in
+    let o′ = saleRecord b o in
+    let sale : SaleSays b o o′ r = record { answer = refl; bytes = refl } in
+    let told = demand-1 .sells b o o′ r sale in
+    let long : length o ≡ 59994 = length-replicate {A = ℕ} 59994 0 in
+    let is : printedSale b ≡ printed r = sym (any-record b (length o) (omega arith)) in (
+      o′,
+      record {
+        answer = r;
+        says = sale;
+        numbered = record {
+          accepts = (
+            λ z. (told .accepts .0 z .0, tt),
+            λ (yes-to, _). told .accepts .1 (yes-to, omega (arith, long, limit-low b (all-yes b .1 yes-to))),
+          );
+          first-no = told .first-no;
+          range = elim (told .range) [
+            | inl h ↦ inl h
+            | inr h ↦ absurd (never-nine b (length o) (omega arith) (sym (sale-number b o o′ r sale) ∙ h .0))
+          ];
+          no-place = told .no-place;
+          a-place = told .a-place;
+          least-place = told .least-place;
+        };
+        text-is = is;
+        refused = λ n. let (text, kept) = refused-print b o o′ r sale n in (is ∙ text, kept);
+      },
+    )
+
 pub prints-all : Prints
-prints-all = record { prints-fit = prints-fit; never-nine = never-nine; any-record = any-record; shortest = shortest; longest = longest; cut = cut }
+prints-all =
+    record {
+      prints = print-numbered;
+      texts = text-numbered;
+      prints-fit = prints-fit;
+      never-nine = never-nine;
+      any-record = any-record;
+      shortest = shortest;
+      longest = longest;
+      cut = cut;
+    }

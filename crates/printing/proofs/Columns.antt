@@ -4,10 +4,10 @@ use mathlib.Core.Path.{_≡_, refl, sym, ap, _∙_}
 use mathlib.Core.Bool.{Bool, true, false, _||_}
 use mathlib.Core.List.{List, [], _∷_, _++_}
 use Prim.Native.Nat.{ℕ, zero, suc, _+_, _-_, _/_, _%_, _^_, _≤_, _<_}
-use native.Mathlib.Nat.{mod-lt, div-lt-iff-lt-mul, one-le-pow, pow-suc}
+use native.Mathlib.Nat.{mod-lt, div-lt-iff-lt-mul, pow-suc}
 use native.Mathlib.Numerals.{add-one}
 use native.Mathlib.Omega.{arith}
-use lib.Dec.{eqb, leb, lit<}
+use lib.Dec.{eqb, leb}
 use lib.ListN.{length, take, drop, set, getD}
 use lib.Seq.{drop-cons, take-suc, length-take-le, take-all}
 use borrow.Author.Tests.{ne-eqb, le-leb, leb-true, leb-false, lt-ltb, le-ltb}
@@ -15,6 +15,7 @@ use Rattle.theory.specs.Lists.{over}
 use Rattle.theory.proofs.Tests.{fails}
 use Rattle.theory.proofs.Over.{over-long, over-more}
 use Rattle.fields.specs.Fields.{digits, columns}
+use Rattle.fields.proofs.Digits.{tens-some}
 use Rattle.fields.proofs.Lines.{columns-length}
 
 -- the last k columns, with the number left for them; before the first digit or after it
@@ -27,7 +28,7 @@ abbrev pub hasDigit : Bool → ℕ → ℕ → Bool
 hasDigit begun share v = begun || (eqb share 1 || leb share v)
 
 more-tens : (k : ℕ) → eqb (10 ^ suc k) 1 ≡ false
-more-tens k = ne-eqb (10 ^ suc k) 1 (λ e. omega (arith, pow-suc 10 k, one-le-pow k 10 (lit< tt)))
+more-tens k = ne-eqb (10 ^ suc k) 1 (λ e. omega (arith, pow-suc 10 k, tens-some k))
 
 digit-next : (begun : Bool) (k v : ℕ) → hasDigit begun (10 ^ k) v ≡ true → lastColumns begun (suc k) v ≡ (48 + v / 10 ^ k) ∷ digits k (v % 10 ^ k)
 digit-next true k v t = refl
@@ -98,10 +99,11 @@ module _ (n : ℕ) (o : List ℕ) where
       pub digit-small : rest / share < 10
       digit-small =
           let e : 6 - k ≡ suc (5 - k) = omega arith in
-          rw share-is (div-lt-iff-lt-mul (one-le-pow (5 - k) 10 (lit< tt)) .1 (omega (arith, p .small, ap (λ j. 10 ^ j) e, pow-suc 10 (5 - k))))
+          rw share-is (div-lt-iff-lt-mul (tens-some (5 - k)) .1
+          (omega (arith, p .small, ap (λ j. 10 ^ j) e, pow-suc 10 (5 - k))))
 
       pub share-some : 1 ≤ share
-      share-some = rw share-is (one-le-pow (5 - k) 10 (lit< tt))
+      share-some = rw share-is (tens-some (5 - k))
 
       pub put-digit : hasDigit begun share rest ≡ true → Putting n o true (rest % share) (share / 10) (k + 1) (set l k (48 + rest / share))
       put-digit t =
@@ -109,7 +111,7 @@ module _ (n : ℕ) (o : List ℕ) where
           let j : 6 - (k + 1) ≡ 5 - k = omega arith in
           record {
             within = omega arith;
-            small = rw (j, share-is) (mod-lt rest (one-le-pow (5 - k) 10 (lit< tt)));
+            small = rw (j, share-is) (mod-lt rest (tens-some (5 - k)));
             power = next-share;
             done = written (48 + rest / share) (ap (λ x. 48 + rest / x) share-is ∙ sym (ap (λ x. getD x 0 0) e));
             left =

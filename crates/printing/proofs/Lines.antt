@@ -2,7 +2,7 @@
 -- Assumes room for them.
 use mathlib.Core.Path.{_≡_, sym, ap, _∙_}
 use mathlib.Core.List.{List, [], _∷_, _++_, append-nil}
-use Prim.Native.Nat.{ℕ, zero, suc, _+_, _-_, _*_, _≤_, _<_}
+use Prim.Native.Nat.{ℕ, suc, _+_, _-_, _*_, _≤_, _<_}
 use native.Mathlib.Nat.{zero-add}
 use native.Mathlib.Numerals.{add-one}
 use native.Mathlib.Omega.{arith}
@@ -10,6 +10,7 @@ use lib.ListN.{length, take, drop, set, getD}
 use lib.Seq.{take-suc, length-take-le}
 use borrow.Rule.Slice.PartMut.{putMid}
 use Rattle.theory.specs.Lists.{tabulate, over}
+use Rattle.theory.proofs.Lists.{tabulate-last}
 use Rattle.theory.proofs.Over.{over-long, over-more, over-then}
 use Rattle.fields.specs.Fields.{columns, fieldsOf, lineOf, linesOf}
 use Rattle.fields.proofs.Lines.{columns-length, fields-length, fields-append, lines-append, lines-length}
@@ -35,11 +36,6 @@ module _ (ns o : List ℕ) (k : ℕ) (l : List ℕ) (e : l ≡ over (fieldsOf (t
 
   pub line-end : 6 * k < length o → (end : ℕ) → end ≡ 6 * k → set l end 10 ≡ over (lineOf (take k ns)) o
   line-end room end ee = ap (λ x. set x end 10) e ∙ over-more (fieldsOf (take k ns)) o 10 end (so-far ∙ sym ee) (omega arith)
-
-tabulate-last : {A : Type 0} (k s : ℕ) (f : ℕ → A) → tabulate (suc k) s f ≡ tabulate k s f ++ (f (s + k) ∷ [])
-tabulate-last zero s f = ap (λ i. f i ∷ []) (omega arith)
-tabulate-last (suc k) s f =
-    ap (λ l. f s ∷ l) (tabulate-last k (suc s) f ∙ ap (λ i. tabulate k (suc s) f ++ (f i ∷ [])) (omega arith))
 
 -- lines of the same length, one after another
 module _ (f : ℕ → List ℕ) (wide : ℕ) (each : (i : ℕ) → length (lineOf (f i)) ≡ wide) where

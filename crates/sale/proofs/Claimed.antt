@@ -1,20 +1,19 @@
 -- All that is claimed of sales, together (`sales-hold`). Assumes nothing.
-use mathlib.Core.Path.{_≡_, refl}
-use mathlib.Core.List.{List}
-use Prim.Native.Nat.{ℕ}
+use mathlib.Core.Path.{refl}
 use Rattle.sheet.specs.Sheets.{sheetOf}
-use Rattle.sheet.specs.Questions.{sheetFault}
+use Rattle.theory.proofs.Auction.{undersupplied-keen}
+use Rattle.owners.specs.Owners.{member}
 use Rattle.demand.proofs.Demands.{demand-below}
-use Rattle.sale.specs.Words.{quote}
-use Rattle.sale.specs.Claims.{Claimed, Sales}
+use Rattle.sale.specs.Words.{market, theAuction, quote}
+use Rattle.sale.specs.Claims.{Sales}
 use Rattle.sale.proofs.Demanding as demanding
 use Rattle.sale.proofs.Lists as lists
-use Rattle.sale.proofs.Opening.{sale-closed}
 use Rattle.sale.proofs.Present as present
+use Rattle.sale.proofs.Supplying as supplying
 use Rattle.sale.proofs.Theorems as theorems
 
-pub claimed : (b : List ℕ) → sheetFault b .number ≡ 0 → Claimed (sheetOf b)
-claimed b accepted =
+pub sales-hold : Sales
+sales-hold b accepted =
     let w = sheetOf b in
     record {
       lists = record {
@@ -22,6 +21,9 @@ claimed b accepted =
         allocations-ordered = lists.allocations-ordered w;
         economy-whole = refl;
         economy-all = lists.economy-all w;
+        economy-alone = lists.economy-alone w;
+        bundle-bits = lists.bundle-bits w;
+        bundle-below = lists.bundle-below w;
       };
       at-prices = λ ps prices. record {
         demand-means = demanding.demand-means b accepted ps prices;
@@ -29,6 +31,9 @@ claimed b accepted =
         demand-some = demanding.demand-some b accepted ps prices;
         raised-price = demanding.raised-price b accepted ps prices;
         keen-means = demanding.keen-means b accepted ps prices;
+        fits-means = supplying.fits-means b accepted ps prices;
+        undersupplied-means = supplying.undersupplied-means b accepted ps prices;
+        all-keen = λ set all. undersupplied-keen (market w) (quote w ps) (theAuction w .economies) (member set) (member all);
         settled-iff-uce = theorems.settled-iff-uce b accepted ps prices;
         lowest-least = theorems.lowest-least b accepted ps;
         lowest-minimal = theorems.lowest-minimal b accepted ps;
@@ -45,6 +50,3 @@ claimed b accepted =
       };
       second = theorems.demand-2 b accepted;
     }
-
-pub sales-hold : Sales
-sales-hold = record { accepted = claimed; refused = sale-closed }

@@ -7,6 +7,7 @@ use Prim.Native.Nat.{ℕ, _+_, _-_, _^_, _≤_, _<_}
 use native.Mathlib.Omega.{arith}
 use Rattle.theory.specs.Sums.{Among, when}
 use Rattle.theory.specs.Universal.{Answers}
+use Rattle.theory.proofs.Tests.{Means}
 use Rattle.numbers.specs.Numbers.{bit}
 use Rattle.owners.specs.Owners.{member}
 use Rattle.owners.specs.Prices.{plain, Priced}
@@ -17,7 +18,7 @@ use Rattle.sheet.specs.Sheets.{Sheet, sheetOf}
 use Rattle.sheet.specs.Questions.{sheetFault}
 use Rattle.sale.specs.Words.{worthOf, priceAt, allocations, market, theAuction, best, quote, demandSet, isKeen}
 use Rattle.sale.specs.Rounds.{raised}
-use Rattle.sale.specs.Claims.{Prices}
+use Rattle.sale.specs.Claims.{Prices, Demanded}
 use Rattle.sale.proofs.Instance.{hall, worths}
 
 module _ (b : List ℕ) (accepted : sheetFault b .number ≡ 0) (ps : List ℕ) (prices : Prices ps) where
@@ -30,18 +31,22 @@ module _ (b : List ℕ) (accepted : sheetFault b .number ≡ 0) (ps : List ℕ) 
   known : Priced (market w) (plain (w .buyers)) (w .buyers) all (theAuction w .top) (worthOf w)
   known = priced (theAuction w) (plain (w .buyers)) all (w .buyers) (allocations w) (hall b accepted) (worthOf w) (worths b accepted)
 
-  answers : Answers (market w) (λ s. s < all) (worthOf w) (λ i. best w ps i - 65535) (quote w ps)
-  answers = quote-answers known ps (small-fair (market w) (plain (w .buyers)) all (worthOf w) ps (prices .small))
+  pub answers : Answers (market w) (λ s. s < all) (worthOf w) (λ i. best w ps i - 65535) (quote w ps)
+  answers = quote-answers known ps (small-fair (market w) (plain (w .buyers)) all (worthOf w) ps prices)
 
-  pub demand-means : (i s : ℕ) → Among (w .buyers) 1 i → s < all →
-      (bit s (demandSet w ps i) ≡ true) ↔ ((t : ℕ) → t < all → worthOf w i t + priceAt w ps i s ≤ worthOf w i s + priceAt w ps i t)
-  demand-means i s r h =
-      let is-bit = demand-bit (w .lots) (quote w ps) i s h in
+  pub wants-means : (i s : ℕ) → Among (w .buyers) 1 i → s < all → Means (quote w ps .wants i s) (Demanded w ps i s)
+  wants-means i s r h =
       let (to, from) = answers .wanted i r s h in
       let (t, g, e) = answers .reached i r in (
-        λ x u k. omega (arith, to (sym is-bit ∙ x), answers .covered i r u k),
-        λ most. is-bit ∙ from (omega (arith, most t g, e, answers .covered i r s h)),
+        λ x u k. omega (arith, to x, answers .covered i r u k),
+        λ most. from (omega (arith, most t g, e, answers .covered i r s h)),
       )
+
+  pub demand-means : (i s : ℕ) → Among (w .buyers) 1 i → s < all → (bit s (demandSet w ps i) ≡ true) ↔ Demanded w ps i s
+  demand-means i s r h =
+      let is-bit = demand-bit (w .lots) (quote w ps) i s h in
+      let (to, from) = wants-means i s r h in
+      (λ x. to (sym is-bit ∙ x), λ most. is-bit ∙ from most)
 
   pub keen-means : (i : ℕ) → Among (w .buyers) 1 i → (isKeen w ps i ≡ true) ↔ ((s : ℕ) × (s < all) × (priceAt w ps i s < worthOf w i s))
   keen-means i r =

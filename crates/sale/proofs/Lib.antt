@@ -3,6 +3,7 @@ pub mod Instance
 pub mod Lists
 pub mod Theorems
 pub mod Demanding
+pub mod Supplying
 pub mod Present
 pub mod Opening
 pub mod Claimed

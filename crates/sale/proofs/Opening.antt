@@ -1,4 +1,6 @@
--- A sale that accepts (`sale-open`), and one that refuses (`sale-closed`). Assumes nothing.
+-- A sale's number and place (`sale-number`, `sale-place`), one that accepts (`sale-open`), and one that refuses
+-- (`sale-closed`); and of a demand answer the same (`demand-number`, `demand-place`, `demand-open`, `demand-closed`).
+-- Assumes nothing.
 use mathlib.Core.Path.{_≡_, refl, sym, ap, _∙_}
 use mathlib.Core.Logic.{_≢_}
 use mathlib.Core.List.{List}
@@ -9,13 +11,14 @@ use lib.ListN.{length}
 use borrow.Author.Tests.{eq-eqb, ne-eqb, leb-true}
 use Rattle.theory.specs.Lists.{over}
 use Rattle.sheet.specs.Sheets.{sheetOf}
-use Rattle.sheet.specs.Questions.{fault, sheetFault}
-use Rattle.sheet.proofs.Forms.{Form, told, told-number, told-yes, told-again, asked-none}
+use Rattle.sheet.specs.Questions.{fault, between, sheetFault}
+use Rattle.sheet.proofs.Forms.{Form, told, told-number, told-place, told-yes, told-again, asked-none, asked-place}
 use Rattle.sale.specs.declared.Sale.{Sale}
 use Rattle.sale.specs.declared.Demand.{Demand}
 use Rattle.sale.specs.Words.{demandSet, isKeen}
 use Rattle.sale.specs.Rounds.{roundLimit, saleSets}
-use Rattle.sale.specs.Answers.{saleFault, refusedDemand, refusedSale, settledSale, saleAnswer, saleRecord, SaleSays}
+use Rattle.sale.specs.Answers.{saleFault, demandFault, refusedDemand, demandAnswer, refusedSale, settledSale}
+use Rattle.sale.specs.Answers.{saleAnswer, saleRecord, SaleSays}
 
 unfoldable pub saleForm : List ℕ → Form Sale
 unfolding settledSale refusedSale
@@ -61,6 +64,13 @@ module _ (b o o′ : List ℕ) (r : Sale) (says : SaleSays b o o′ r) where
   unfolding saleForm
   sale-number = ap (λ (s : Sale). s .number) sale-told ∙ told-number (saleForm b) (saleFault b (length o))
 
+  pub sale-place : r .place ≡ saleFault b (length o) .place
+  unfolding saleForm
+  sale-place =
+      ap (λ (s : Sale). s .place) sale-told
+      ∙ told-place (saleForm b) (saleFault b (length o))
+      (asked-place 9 (leb (roundLimit (sheetOf b)) (length o)) (sheetFault b) (omega arith))
+
   pub sale-open : r .number ≡ 0 → Open b o o′ r
   unfolding saleForm saleRecord
   sale-open z =
@@ -80,3 +90,34 @@ module _ (b o o′ : List ℕ) (r : Sale) (says : SaleSays b o o′ r) where
         ∙ ap (λ (s : Sale). refusedSale (fault (s .number) (s .place))) (sym sale-told),
     says .bytes ∙ rw (ne-eqb (saleFault b (length o) .number) 0 (λ z. h (sale-number ∙ z))) refl,
   )
+
+-- a demand answer
+module _ (b : List ℕ) (i : ℕ) (ps : List ℕ) where
+  abbrev d : Demand
+  d = demandAnswer b i ps
+
+  demand-told : d ≡ told (demandForm b i ps) (demandFault b i)
+  unfolding demandAnswer demandForm
+  demand-told = refl
+
+  pub demand-number : d .number ≡ demandFault b i .number
+  unfolding demandForm
+  demand-number = ap (λ (x : Demand). x .number) demand-told ∙ told-number (demandForm b i ps) (demandFault b i)
+
+  pub demand-place : d .place ≡ demandFault b i .place
+  unfolding demandForm
+  demand-place =
+      ap (λ (x : Demand). x .place) demand-told
+      ∙ told-place (demandForm b i ps) (demandFault b i)
+      (asked-place 10 (between (sheetOf b .buyers) i) (sheetFault b) (omega arith))
+
+  pub demand-open : d .number ≡ 0 → (d .bundles ≡ demandSet (sheetOf b) ps i) × (d .keen ≡ isKeen (sheetOf b) ps i)
+  unfolding demandForm
+  demand-open z =
+      let e = demand-told ∙ told-yes (demandForm b i ps) (demandFault b i)
+      (ap (λ (x : Demand). x .number) (sym demand-told) ∙ z) in
+      (ap (λ (x : Demand). x .bundles) e, ap (λ (x : Demand). x .keen) e)
+
+  pub demand-closed : d .number ≢ 0 → d ≡ refusedDemand (fault (d .number) (d .place))
+  unfolding demandAnswer demandForm
+  demand-closed h = told-again (demandForm b i ps) (demandFault b i) h

@@ -15,15 +15,13 @@ use Rattle.theory.proofs.Tests.{every-same}
 use Rattle.theory.proofs.Sums.{sum-same}
 use Rattle.theory.proofs.Lists.{most-same, keep-from, upTo-from}
 use Rattle.theory.proofs.Alike.{lowest-alike}
-use Rattle.owners.specs.Owners.{zeroFirst, lacks}
+use Rattle.owners.specs.Owners.{lacks}
 use Rattle.owners.specs.Prices.{payoff, plain}
-use Rattle.owners.proofs.Owners.{allocation-from}
-use Rattle.owners.proofs.Singles.{singles-below}
 use Rattle.owners.proofs.Economies.{economies-all}
 use Rattle.sheet.specs.Sheets.{Sheet}
 use Rattle.sale.specs.Words.{worthOf, priceAt, allocations, market, theAuction, economy, best, quote, demands, isKeen, revenue}
 use Rattle.sale.specs.Claims.{Agree, SameAnswers}
-use Rattle.sale.proofs.Theorems.{economy-fewer}
+use Rattle.sale.proofs.Lists.{bundle-below, economy-fewer}
 
 lists-fewer : (w : Sheet) (e : Economy (List ℕ)) → e ∈ theAuction w .economies → (a : List ℕ) → a ∈ e .lists → a ∈ allocations w
 lists-fewer w =
@@ -45,12 +43,8 @@ module _ (w : Sheet) (ps qs : List ℕ) (agree : Agree w ps qs) where
   keen-same : (i : ℕ) → Among (w .buyers) 1 i → isKeen w ps i ≡ isKeen w qs i
   keen-same i r = rw (best-same i r)
 
-  -- what a buyer holds in an allocation is a bundle
-  held : {a : List ℕ} → a ∈ allocations w → (i : ℕ) → market w .holds a i < 2 ^ w .lots
-  held {a} m i = singles-below (w .lots) i a (allocation-from (zeroFirst (w .buyers)) (w .lots) m .0)
-
   total-same : (a : List ℕ) → a ∈ allocations w → total (market w) (priceAt w ps) a ≡ total (market w) (priceAt w qs) a
-  total-same a m = sum-same (w .buyers) 1 _ _ (λ i r. price-same i (market w .holds a i) r (held m i))
+  total-same a m = sum-same (w .buyers) 1 _ _ (λ i r. price-same i (market w .holds a i) r (bundle-below w a m i))
 
   revenue-same : (e : ℕ) → revenue w ps e ≡ revenue w qs e
   revenue-same e = most-same (total (market w) (priceAt w ps)) (total (market w) (priceAt w qs)) (economy w e) (λ a m. total-same a (economy-fewer w e a m))
@@ -69,13 +63,13 @@ module _ (w : Sheet) (ps qs : List ℕ) (agree : Agree w ps qs) where
               every-same (w .buyers) 1
                   (λ i. eqb (market w .holds a i) 0 || demands w ps i (market w .holds a i))
                   (λ i. eqb (market w .holds a i) 0 || demands w qs i (market w .holds a i))
-                  (λ i r. rw (demands-same i (market w .holds a i) r (held n i))),
+                  (λ i r. rw (demands-same i (market w .holds a i) r (bundle-below w a n i))),
             );
         chosen =
             lowest-alike (market w) (quote w ps) (quote w qs) keen-same (theAuction w .member) (theAuction w .sets) (theAuction w .economies) (λ e m.
             let sub = lists-fewer w e m in
             record {
-              prices = λ a k i r. price-same i (market w .holds a i) r (held (sub a k) i);
-              wants = λ a k i r. demands-same i (market w .holds a i) r (held (sub a k) i);
+              prices = λ a k i r. price-same i (market w .holds a i) r (bundle-below w a (sub a k) i);
+              wants = λ a k i r. demands-same i (market w .holds a i) r (bundle-below w a (sub a k) i);
             });
       }

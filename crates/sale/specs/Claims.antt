@@ -1,12 +1,11 @@
 -- What is claimed of sales (`Sales`): of every accepted sheet, of its allocations, at any prices (`AtPrices`, with universal competitive equilibria as the paper has
 -- them), at every round (`AtRound`), and demand 2 as one record.
 use mathlib.Core.Path.{_≡_}
-use mathlib.Core.Logic.{_≢_, _↔_}
+use mathlib.Core.Logic.{_≢_, _⊎_, _↔_}
 use mathlib.Core.Bool.{true, false, _&&_}
 use mathlib.Core.List.{List}
 use Prim.Native.Nat.{ℕ, suc, _+_, _-_, _*_, _^_, _≤_, _<_}
-use lib.Dec.{eqb}
-use lib.ListN.{length, getD}
+use lib.ListN.{length, getD, replicate}
 use Rattle.theory.specs.Sums.{Among, when}
 use Rattle.theory.specs.Lists.{_∈_, Ordered, sumOver}
 use Rattle.theory.specs.Markets.{sumOf, total}
@@ -15,16 +14,13 @@ use Rattle.numbers.specs.Numbers.{bit}
 use Rattle.owners.specs.Owners.{ComesBefore, lacks, member}
 use Rattle.owners.specs.Prices.{plain, read}
 use Rattle.sheet.specs.Sheets.{Sheet, sheetOf}
-use Rattle.sheet.specs.Questions.{fault, sheetFault}
-use Rattle.sale.specs.declared.Sale.{Sale}
-use Rattle.sale.specs.Answers.{refusedSale, SaleSays}
+use Rattle.sheet.specs.Questions.{sheetFault}
 use Rattle.sale.specs.Words.{worthOf, priceAt, allocations, market, theAuction, economy, best, quote, demandSet, isKeen, revenue, fits, undersupplied, lowest}
-use Rattle.sale.specs.Rounds.{raised, roundLimit, startPrices, saleSets, pricesAfter, lastPrices, discountFor}
+use Rattle.sale.specs.Rounds.{raised, roundLimit, startPrices, saleSets, pricesAfter, lastPrices, ownersBy, discountFor}
 
 -- a price table that may come from outside
-pub record Prices (ps : List ℕ) : Type 0 where
-  pub long : length ps ≡ 96
-  pub small : (k : ℕ) → getD ps k 0 ≤ 65535
+abbrev pub Prices : List ℕ → Type 0
+Prices ps = (k : ℕ) → getD ps k 0 ≤ 65535
 
 module _ (w : Sheet) where
   -- two price tables that agree for the buyers there are and the bundles there are, but for the empty one
@@ -39,13 +35,16 @@ module _ (w : Sheet) where
     pub fitting : (e : ℕ) → e ≤ w .buyers → (a : List ℕ) → a ∈ economy w e → fits w ps e a ≡ fits w qs e a
     pub chosen : lowest w ps ≡ lowest w qs
 
+  -- s has the greatest payoff of all bundles: payoffs may be negative, so they are compared as sums
+  abbrev pub Demanded : List ℕ → ℕ → ℕ → Type 0
+  Demanded ps i s = (t : ℕ) → t < 2 ^ w .lots → worthOf w i t + priceAt w ps i s ≤ worthOf w i s + priceAt w ps i t
+
   -- definition 1: a competitive equilibrium of the economy e (0: of all buyers): a list of its allocations, of greatest takings among them, in which every
-  -- buyer present, keen or not, holds a bundle of greatest payoff over all bundles. Payoffs may be negative: the inequality is written as a sum.
+  -- buyer present, keen or not, holds a bundle of greatest payoff
   pub record Supports (ps : List ℕ) (e : ℕ) (a : List ℕ) : Type 0 where
     pub among : a ∈ economy w e
     pub seller : (c : List ℕ) → c ∈ economy w e → total (market w) (priceAt w ps) c ≤ total (market w) (priceAt w ps) a
-    pub buyers : (i : ℕ) → Among (w .buyers) 1 i → eqb i e ≡ false → (s : ℕ) → s < 2 ^ w .lots →
-        worthOf w i s + priceAt w ps i (market w .holds a i) ≤ worthOf w i (market w .holds a i) + priceAt w ps i s
+    pub buyers : (i : ℕ) → Among (w .buyers) 1 i → i ≢ e → Demanded ps i (market w .holds a i)
 
   -- definition 2: a universal competitive equilibrium
   abbrev pub UCE : List ℕ → Type 0
@@ -57,22 +56,38 @@ module _ (w : Sheet) where
     pub allocations-ordered : Ordered (ComesBefore _<_) (allocations w)
     pub economy-whole : economy w 0 ≡ allocations w
     pub economy-all : (e : ℕ) → 1 ≤ e → (a : List ℕ) → (a ∈ economy w e) ↔ ((a ∈ allocations w) × (lacks e a ≡ true))
+    -- "With m = 1 the second kind has no buyer and one allocation, nothing sold"
+    pub economy-alone : w .buyers ≡ 1 → (a : List ℕ) → (a ∈ economy w 1) ↔ (a ≡ replicate (w .lots) 0)
+    -- a bundle's bits are the lots that its buyer owns, and it has no others
+    pub bundle-bits : (a : List ℕ) → a ∈ allocations w → (i j : ℕ) → j < w .lots → (bit j (market w .holds a i) ≡ true) ↔ (getD a j 0 ≡ i)
+    pub bundle-below : (a : List ℕ) → a ∈ allocations w → (i : ℕ) → market w .holds a i < 2 ^ w .lots
 
   -- at any ninety-six prices
   pub record AtPrices (ps : List ℕ) : Type 0 where
-    -- the demand set's bits are the bundles of greatest payoff, and it has no others; keen is who has a bundle of positive payoff. Payoffs may be negative: they
-    -- are compared as sums.
-    pub demand-means : (i s : ℕ) → Among (w .buyers) 1 i → s < 2 ^ w .lots →
-        (bit s (demandSet w ps i) ≡ true) ↔ ((t : ℕ) → t < 2 ^ w .lots → worthOf w i t + priceAt w ps i s ≤ worthOf w i s + priceAt w ps i t)
+    -- the demand set's bits are the bundles of greatest payoff, and it has no others; keen is who has a bundle of positive payoff
+    pub demand-means : (i s : ℕ) → Among (w .buyers) 1 i → s < 2 ^ w .lots → (bit s (demandSet w ps i) ≡ true) ↔ Demanded ps i s
     pub demand-below : (i : ℕ) → demandSet w ps i < 2 ^ (2 ^ w .lots)
     pub demand-some : (i : ℕ) → Among (w .buyers) 1 i → (s : ℕ) × (s < 2 ^ w .lots) × (bit s (demandSet w ps i) ≡ true)
     pub keen-means : (i : ℕ) → Among (w .buyers) 1 i → (isKeen w ps i ≡ true) ↔ ((s : ℕ) × (s < 2 ^ w .lots) × (priceAt w ps i s < worthOf w i s))
     -- a round raises the prices of the set's members for the bundles that they demand, and no others, by 1
     pub raised-price : (set i s : ℕ) → Among (w .buyers) 1 i → 1 ≤ s → s < 2 ^ w .lots →
         priceAt w (raised w set ps) i s ≡ priceAt w ps i s + when (member set i && bit s (demandSet w ps i)) 1
+    -- what fits reaches the revenue and gives each buyer a demanded bundle or the empty one
+    pub fits-means : (e : ℕ) (a : List ℕ) → a ∈ economy w e → (fits w ps e a ≡ true) ↔
+        (((c : List ℕ) → c ∈ economy w e → total (market w) (priceAt w ps) c ≤ total (market w) (priceAt w ps) a)
+        × ((i : ℕ) → Among (w .buyers) 1 i → (market w .holds a i ≡ 0) ⊎ Demanded ps i (market w .holds a i)))
+    -- an undersupplied set has keen members alone, and in some economy no fitting allocation gives all that are present a demanded bundle
+    pub undersupplied-means : (set : ℕ) → (undersupplied w ps set ≡ true) ↔
+        (((i : ℕ) → Among (w .buyers) 1 i → member set i ≡ true → isKeen w ps i ≡ true)
+        × ((e : ℕ) × (e ≤ w .buyers) × ((a : List ℕ) → a ∈ economy w e → fits w ps e a ≡ true →
+        ((i : ℕ) → Among (w .buyers) 1 i → i ≢ e → member set i ≡ true → Demanded ps i (market w .holds a i)) → ⊥)))
+    -- if some set is undersupplied, then so is that of all keen buyers
+    pub all-keen : (set all : ℕ) → undersupplied w ps set ≡ true → ((i : ℕ) → Among (w .buyers) 1 i → member all i ≡ isKeen w ps i) →
+        undersupplied w ps all ≡ true
     -- no set, the empty one included, is undersupplied exactly if the prices are a UCE
     pub settled-iff-uce : (lowest w ps ≡ 0) ↔ UCE ps
-    -- the lowest undersupplied set is the least, and minimal (definition 11)
+    -- the lowest undersupplied set is the least, and none of its proper subsets is undersupplied (minimal, as definition 11 has it where there is universal
+    -- overdemand)
     pub lowest-least : (set : ℕ) → lowest w ps ≡ suc set →
         (undersupplied w ps set ≡ true) × ((other : ℕ) → other < set → undersupplied w ps other ≡ false)
     pub lowest-minimal : (set : ℕ) → lowest w ps ≡ suc set → Minimal (market w) (quote w ps) (theAuction w .economies) (member set)
@@ -102,6 +117,9 @@ module _ (w : Sheet) where
     -- the last prices are a UCE, and no earlier ones are
     pub last-uce : UCE (lastPrices w)
     pub none-earlier : (k : ℕ) → k < length (saleSets w) → UCE (pricesAfter w k) → ⊥
+    -- universal overdemand (definition 10) in every round: some allocation fits (`fits-always`), and the set of all keen buyers is undersupplied
+    pub overdemand : (k : ℕ) → k < length (saleSets w) → (all : ℕ) → ((i : ℕ) → Among (w .buyers) 1 i → member all i ≡ isKeen w (pricesAfter w k) i) →
+        undersupplied w (pricesAfter w k) all ≡ true
     -- each recorded set is the lowest undersupplied one at its prices, minimal by definition 11, one of the buyers there are, and has a member
     pub lowest-set : (k : ℕ) → k < length (saleSets w) → lowest w (pricesAfter w k) ≡ suc (setAt k)
     pub least-set : (k : ℕ) → k < length (saleSets w) →
@@ -118,6 +136,9 @@ module _ (w : Sheet) where
     -- one raise a member a round: the raises and the last payoffs make up the worths of all lots; no payoff is cut off
     pub not-cut : (i : ℕ) → Among (w .buyers) 1 i → 65535 ≤ best w (lastPrices w) i
     pub raises : sumOver (size (theAuction w)) (saleSets w) + sumOf (market w) (λ i. best w (lastPrices w) i - 65535) ≡ roundLimit w
+    -- the sale's own owners support the last prices: they fit, and serve every keen buyer
+    pub sold-supports : Supports (lastPrices w) 0 (ownersBy w (lastPrices w))
+    pub sold-fits : fits w (lastPrices w) 0 (ownersBy w (lastPrices w)) ≡ true
 
 pub record Claimed (w : Sheet) : Type 0 where
   pub lists : Allocated w
@@ -125,7 +146,6 @@ pub record Claimed (w : Sheet) : Type 0 where
   pub at-round : (k : ℕ) → k ≤ length (saleSets w) → AtRound w k
   pub second : Demand-2 w
 
--- of every accepted sheet, and that a refused sale leaves the record as it was
-pub record Sales : Type 0 where
-  pub accepted : (b : List ℕ) → sheetFault b .number ≡ 0 → Claimed (sheetOf b)
-  pub refused : (b o o′ : List ℕ) (r : Sale) → SaleSays b o o′ r → r .number ≢ 0 → (r ≡ refusedSale (fault (r .number) (r .place))) × (o′ ≡ o)
+-- of every accepted sheet
+abbrev pub Sales : Type 0
+Sales = (b : List ℕ) → sheetFault b .number ≡ 0 → Claimed (sheetOf b)

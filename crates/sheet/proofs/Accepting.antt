@@ -12,10 +12,11 @@ use Rattle.theory.proofs.Loops.{filled-all}
 use Rattle.fields.specs.declared.Field.the-variants.{Number}
 use Rattle.fields.specs.Fields.{fieldAt, columns, numberOf}
 use Rattle.fields.proofs.Canonical.{field-canonical}
-use Rattle.sheet.specs.Sheets.{lineLength, offset, Sheet, asSheet, sheetOf, worth, worthPlace, worthsIn, bytesOf}
+use Rattle.sheet.specs.Sheets.{lineLength, offset, Sheet, asSheet, sheetOf, worth, worthIn, worthPlace, worthsIn}
+use Rattle.sheet.specs.Sheets.{bytesOf}
 use Rattle.sheet.specs.Questions.{sheetFault}
 use Rattle.sheet.specs.Claims.{questions, Shape, Grows, Written, Sheets}
-use Rattle.sheet.proofs.Places.{worth-empty, worth-nobody, worth-nothing, worth-there}
+use Rattle.sheet.proofs.Places.{cell-empty, cell-nobody, cell-nothing, cell-there}
 use Rattle.sheet.proofs.Faults.{first-no, all-yes}
 use Rattle.sheet.proofs.Long.{field-front, long-refused, long-alike}
 use Rattle.sheet.proofs.Writing.{bytes-written, written-same}
@@ -46,17 +47,17 @@ module _ (b : List ℕ) (w : Sheet) (shape : Shape w) (written : Written b w) wh
   place-same : (i s : ℕ) → s < 16 → worth w i s ≡ worthPlace m n b i s
   place-same i s l =
       elim (decLt i m) [
-        | no h ↦ shape .nobody i s l (omega arith) ∙ worth-nobody m n b i s (omega arith)
+        | no h ↦ shape .nobody i s l (omega arith) ∙ cell-nobody m n (worthIn n b) i s (omega arith)
         | yes h ↦
             elim (decLt s (2 ^ n)) [
-              | no g ↦ shape .nothing i s l (omega arith) ∙ worth-nothing m n b i s (omega arith)
+              | no g ↦ shape .nothing i s l (omega arith) ∙ cell-nothing m n (worthIn n b) i s (omega arith)
               | yes g ↦ present i s h g
             ]
       ]
     where
       present : (i s : ℕ) → i < m → s < 2 ^ n → worth w i s ≡ worthPlace m n b i s
-      present i zero h g = shape .empty i ∙ worth-empty m n b i 0 refl
-      present i (suc c) h g = sym (ap numberOf (worth-read i c h g)) ∙ worth-there m n b i c h g
+      present i zero h g = shape .empty i ∙ cell-empty m n (worthIn n b) i 0 (λ _. refl) refl
+      present i (suc c) h g = sym (ap numberOf (worth-read i c h g)) ∙ cell-there m n (worthIn n b) i (suc c) h g
 
   worths-same : worthsIn m n b ≡ w .worths
   unfolding worthsIn

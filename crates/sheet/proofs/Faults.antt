@@ -1,24 +1,26 @@
--- The fault of a sheet, by the question that gets the first "no": what it can be (`fault-cases`), and which question it is (`first-no`).
--- Assumes nothing.
-use mathlib.Core.Path.{_≡_, refl, sym, ap, _∙_}
+-- The fault of a sheet, by the question that gets the first "no": which question that is (`first-no`, `all-yes`), and
+-- "yes" to those before one (`before-none`, `before-more`); what questions 6, 7 and 8 ask place by place
+-- (`malformed-none`, `large-none`, `falls-none`). Assumes nothing.
+use mathlib.Core.Path.{_≡_, refl, sym, ap, subst, _∙_}
 use mathlib.Core.Logic.{_↔_, _⊎_, inl, inr}
 use mathlib.Core.Bool.{Bool, true}
 use mathlib.Core.List.{List, [], _∷_}
 use Prim.Native.Nat.{ℕ, zero, suc, _+_, _-_, _*_, _^_, _≤_, _<_}
 use native.Mathlib.Omega.{arith}
-use native.Mathlib.Decide.{ℕ-discrete}
+use native.Mathlib.Decide.{ℕ-discrete, decLe}
 use lib.Dec.{leb}
 use lib.ListN.{length, drop, getD}
 use Rattle.theory.proofs.Tests.{by-test, fails, Means, means-via, and-means, eqb-means, leb-means}
 use Rattle.theory.proofs.Rounds.{by-choice}
 use Rattle.sheet.specs.declared.Fault.{Fault}
 use Rattle.sheet.specs.Sheets.{lineLength, offset, Sheet, sheetOf, worth}
-use Rattle.sheet.specs.Questions.{ask, askEach, headGood, between, rightLength, malformed, tooLarge, falls, firstWrong, linesFault, sheetFault}
-use Rattle.sheet.specs.Claims.{GoodField, questions, Question, Malformed}
+use Rattle.sheet.specs.Questions.{ask, askEach, headGood, between, rightLength, wrong, firstWrong, linesFault}
+use Rattle.sheet.specs.Questions.{sheetFault}
+use Rattle.sheet.specs.Claims.{GoodField, questions, Question, Malformed, TooLarge, Falls, Grows}
 use Rattle.fields.proofs.Canonical.{no-number}
 use Rattle.numbers.proofs.Numbers.{pow-some}
 use Rattle.sheet.proofs.Lines.{none-wrong, all-right, field-told, good-means, malformed-means, large-means, falls-means}
-use Rattle.sheet.proofs.Valued.{empty-worth, small-worth, growing-worth}
+use Rattle.sheet.proofs.Valued.{empty-worth}
 
 -- a list of questions, numbered from k on: n is the number of the first that gets a "no", 0 if there is none
 abbrev FirstNo : List (Type 0) → ℕ → ℕ → Type 0
@@ -97,51 +99,74 @@ module _ (b : List ℕ) where
   abbrev from : ℕ → List (Type 0)
   from k = drop k (questions b w)
 
-  malformed-none : (firstWrong 6 b w ≡ 0) ↔ Question b 6
+  -- what questions 6, 7 and 8 ask, place by place
+  abbrev pub Nowhere : (ℕ → ℕ → Type 0) → Type 0
+  Nowhere T = (i c : ℕ) → i < w .buyers → c < 2 ^ w .lots → T i c → ⊥
+
+  pub malformed-none : Question b 6 ↔ Nowhere (λ i c. Malformed w i c b)
   malformed-none =
-      let size = 2 ^ w .lots in
-      let right : firstWrong 6 b w ≡ 0 → (i c : ℕ) → i < w .buyers → c < size → Malformed w i c b → ⊥ =
-      λ e i c h g x. fails (malformed-means b w i c g .1 x) (none-wrong 6 b w e i c h g) in (
-        λ e. (
-          λ i c h g. elim (field-told b (offset (w .lots) i c)) [ inl x ↦ x | inr f ↦ absurd (right e i c h (omega arith) (inl (g, f))) ],
-          λ i h. elim (ℕ-discrete (getD b (offset (w .lots) i (size - 1)) 0) 10) [
-            | yes x ↦ x
-            | no x ↦ absurd (right e i (size - 1) h (omega (arith, pow-some (w .lots))) (inr (omega (arith, pow-some (w .lots)), x)))
-          ],
+      let last = 2 ^ w .lots - 1 in (
+        λ q i c l g x. elim x [
+          | inl (s, f) ↦ let (v, y) = q .0 i c l s in no-number (sym f ∙ y)
+          | inr (s, none) ↦
+              let e : c ≡ last = omega arith in
+              none (ap (λ d. getD b (offset (w .lots) i d) 0) e ∙ q .1 i l)
+        ],
+        λ none. (
+          λ i c h g. elim (field-told b (offset (w .lots) i c))
+              [ inl x ↦ x | inr f ↦ absurd (none i c h (omega arith) (inl (g, f))) ],
+          λ i h.
+              let some = pow-some (w .lots) in
+              elim (ℕ-discrete (getD b (offset (w .lots) i last) 0) 10)
+              [ yes x ↦ x | no x ↦ absurd (none i last h (omega arith) (inr (omega arith, x))) ],
         ),
-        λ h. all-right 6 b w (λ i c l g. by-test (malformed w i c b)
-            (λ t. elim (malformed-means b w i c g .0 t) [
-              | inl x ↦ let (v, y) = h .0 i c l (x .0) in no-number (sym (x .1) ∙ y)
-              | inr x ↦ let e : c ≡ size - 1 = let y = x .0 in omega arith in absurd (x .1 (ap (λ d. getD b (offset (w .lots) i d) 0) e ∙ h .1 i l))
-            ])
-            (λ t. t)),
       )
 
-  pub large-none : (firstWrong 7 b w ≡ 0) ↔ Question b 7
-  large-none = (
-    λ e. small-worth (w .buyers) (w .lots) b e,
-    λ h. all-right 7 b w (λ i c l g. by-test (tooLarge w i c) (λ t. let x = large-means b w i c .0 t in absurd (omega (arith, h i (suc c) l (x .0), x .1))) (λ t. t)),
-  )
+  pub large-none : Question b 7 ↔ Nowhere (TooLarge w)
+  large-none = (λ q i c l g (s, more). omega (arith, q i (suc c) l s), small)
+    where
+      small : Nowhere (TooLarge w) → Question b 7
+      small none i zero h g = omega (arith, empty-worth (w .buyers) (w .lots) b i)
+      small none i (suc c) h g =
+          elim (decLe (worth w i (suc c)) 9999)
+          [ yes l ↦ l | no l ↦ absurd (none i c h (omega arith) (g, omega arith)) ]
 
-  pub falls-none : (firstWrong 8 b w ≡ 0) ↔ Question b 8
-  falls-none = (
-    λ e i s j h g l t _. growing-worth (w .buyers) (w .lots) b e i s j h g l t,
-    λ h. all-right 8 b w (λ i c l g. by-test (falls w i c)
-        (λ t.
-        let (g′, (j, m, has, more)) = falls-means b w i c .0 t in
-        elim (ℕ-discrete (suc c) (2 ^ j)) [
-          | yes e ↦ let z : suc c - 2 ^ j ≡ 0 = omega arith in absurd (omega (arith, ap (worth w i) z, empty-worth (w .buyers) (w .lots) b i))
-          | no e ↦ absurd (omega (arith, h i (suc c) j l g′ m has e))
-        ])
-        (λ t. t)),
+  -- a bundle of one lot is worth at least as much as the empty one, which question 8 need not ask
+  pub growing : Question b 8 → Grows w
+  growing q i s j h g l t =
+      elim (ℕ-discrete s (2 ^ j)) [
+        | yes e ↦
+            let z : s - 2 ^ j ≡ 0 = omega arith in
+            omega (arith, ap (worth w i) z, empty-worth (w .buyers) (w .lots) b i)
+        | no e ↦ q i s j h g l t e
+      ]
+
+  pub falls-none : Question b 8 ↔ Nowhere (Falls w)
+  falls-none = (λ q i c l g (s, (j, m, has, more)). omega (arith, growing q i (suc c) j l s m has), grow)
+    where
+      grow : Nowhere (Falls w) → Question b 8
+      grow none i zero j h g l t _ = let z : 0 - 2 ^ j ≡ 0 = omega arith in omega (arith, ap (worth w i) z)
+      grow none i (suc c) j h g l t _ =
+          elim (decLe (worth w i (suc c - 2 ^ j)) (worth w i (suc c)))
+          [ yes d ↦ d | no d ↦ absurd (none i c h (omega arith) (g, (j, l, t, omega arith))) ]
+
+  none-first : (k : ℕ) (T : ℕ → ℕ → Type 0) → ((i c : ℕ) → c < 2 ^ w .lots → Means (wrong k b w i c) (T i c)) →
+      Question b k ↔ Nowhere T → (firstWrong k b w ≡ 0) ↔ Question b k
+  none-first k T means (to, back) = (
+    λ e. back (λ i c h g x. fails (means i c g .1 x) (none-wrong k b w e i c h g)),
+    λ q. all-right k b w (λ i c h g.
+        by-test (wrong k b w i c) (λ t. absurd (to q i c h g (means i c g .0 t))) (λ t. t)),
   )
 
   lines-first : FirstNo (from 6) 6 (linesFault b w .number)
   unfolding linesFault
   lines-first =
-      asked-each (Question b 6) (from 7) 6 (w .lots) (firstWrong 6 b w) _ malformed-none
-      (asked-each (Question b 7) (from 8) 7 (w .lots) (firstWrong 7 b w) _ large-none
-      (asked-each (Question b 8) (from 9) 8 (w .lots) (firstWrong 8 b w) _ falls-none refl))
+      let six = none-first 6 _ (λ i c g. malformed-means b w i c g) malformed-none in
+      let seven = none-first 7 _ (λ i c _. large-means b w i c) large-none in
+      let eight = none-first 8 _ (λ i c _. falls-means b w i c) falls-none in
+      asked-each (Question b 6) (from 7) 6 (w .lots) (firstWrong 6 b w) _ six
+      (asked-each (Question b 7) (from 8) 7 (w .lots) (firstWrong 7 b w) _ seven
+      (asked-each (Question b 8) (from 9) 8 (w .lots) (firstWrong 8 b w) _ eight refl))
 
   questions-first : FirstNo (from 1) 1 (sheetFault b .number)
   unfolding sheetFault
@@ -152,6 +177,17 @@ module _ (b : List ℕ) where
       asked (Question b 4) (from 5) 4 (between 4 (w .lots)) _ (between-means 4 (w .lots)) (λ _.
       asked (Question b 5) (from 6) 5 (rightLength b w) _ (eqb-means (length b) (13 + w .buyers * lineLength (w .lots))) (λ _.
       lines-first)))))
+
+  -- "yes" to the questions before k
+  abbrev pub Before : ℕ → Type 0
+  Before k = (j : ℕ) → j < k → Question b j
+
+  pub before-none : Before 1
+  before-none j h = let e : 0 ≡ j = omega arith in subst (Question b) e tt
+
+  pub before-more : (k : ℕ) → Before k → Question b k → Before (suc k)
+  before-more k before q j h =
+      elim (ℕ-discrete k j) [ yes e ↦ subst (Question b) e q | no e ↦ before j (omega arith) ]
 
   -- C17: the number is k exactly if the questions below k get a "yes" and k gets none; it is 0 exactly if all get one
   pub first-no : (k : ℕ) → 1 ≤ k → (sheetFault b .number ≡ k) ↔ (((j : ℕ) → j < k → Question b j) × (Question b k → ⊥))

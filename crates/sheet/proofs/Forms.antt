@@ -1,6 +1,8 @@
--- Answers made of a fault (`Form`): `told-number` and `told-place` say which number and place such an answer has, `told-yes` and `told-no` whether it accepts.
--- The fault of an entry that asks a question of its own is the sheet's, none, or that question's (`asked-first`, `asked-yes`, `asked-no`). Assumes nothing.
-use mathlib.Core.Path.{_≡_, sym, ap, ap₂, _∙_}
+-- Answers made of a fault (`Form`): `told-number` and `told-place` say which number and place such an answer has,
+-- `told-yes` and `told-no` whether it accepts. The fault of an entry that asks a question of its own is the sheet's,
+-- none, or that question's (`asked-first`, `asked-yes`, `asked-no`); none has place 0 (`asked-place`). With a "yes" it
+-- is the sheet's (`asked-same`). Assumes nothing.
+use mathlib.Core.Path.{_≡_, refl, sym, ap, ap₂, _∙_}
 use mathlib.Core.Logic.{_≢_}
 use mathlib.Core.Bool.{Bool, true, false}
 use Prim.Native.Nat.{ℕ, _≤_}
@@ -67,3 +69,12 @@ module _ (own : ℕ) (x : Bool) (f : Fault) where
       (λ t.
       let some-fault = eqb-false (f .number) 0 t in
       absurd (some-fault (ap (λ (g : Fault). g .number) (sym (asked-first some-fault)) ∙ z)))
+
+  pub asked-place : 1 ≤ own → asked .number ≡ 0 → asked .place ≡ 0
+  asked-place some z = let (none, t) = asked-none some z in ap (λ (g : Fault). g .place) (asked-yes none t)
+
+pub asked-same : (own : ℕ) (f : Fault) → (f .number ≡ 0 → f .place ≡ 0) → asked own true f ≡ f
+asked-same own f h =
+    by-test (accepts f)
+    (λ t. let none = eqb-true (f .number) 0 t in asked-yes own true f none refl ∙ ap₂ fault (sym none) (sym (h none)))
+    (λ t. asked-first own true f (eqb-false (f .number) 0 t))

@@ -1,6 +1,6 @@
--- The worths of a sheet (Places, Valued), what questions 6 to 8 find (Lines), the order of the questions (Faults), what is known of every sheet
--- (Theorems), answers made of a fault (Forms), sheets that are too long (Long), the bytes of a table (Writing), and sheets in which a table is written
--- (Accepting).
+-- The worths of a sheet (Places, Valued), what questions 6 to 8 find (Lines), the order of the questions (Faults), what
+-- is known of every sheet (Theorems), answers made of a fault (Forms), sheets that are too long (Long), the bytes of a
+-- sheet's numbers (Writing), sheets in which they are written (Accepting), and tables of worths as sheets (Tables).
 pub mod Places
 pub mod Lines
 pub mod Valued
@@ -10,3 +10,4 @@ pub mod Forms
 pub mod Long
 pub mod Writing
 pub mod Accepting
+pub mod Tables

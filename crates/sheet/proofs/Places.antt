@@ -1,23 +1,45 @@
--- The places of a sheet's lines, as the functions look at them: worths, and what questions 6, 7 and 8 find wrong at one place. Assumes nothing.
-use mathlib.Core.Path.{_≡_}
+-- A table's worths, by line and bundle, as a sheet has them: those of absent buyers and bundles are 0 (`cell`); sixteen
+-- to a line (`cellAt`). Offers what stands at a place of the empty bundle, an absent buyer, an absent bundle, and one
+-- that there is, and a bound. Assumes nothing.
+use mathlib.Core.Path.{_≡_, sym}
 use mathlib.Core.Bool.{_&&_}
-use mathlib.Core.List.{List}
-use Prim.Native.Nat.{ℕ, suc, _^_, _<_, _≤_}
+use Prim.Native.Nat.{ℕ, _/_, _%_, _^_, _<_, _≤_}
+use native.Mathlib.Omega.{arith}
 use lib.Dec.{ltb}
-use borrow.Author.Tests.{lt-ltb, le-ltb}
+use borrow.Author.Tests.{lt-ltb, le-ltb, ltb-true}
+use Rattle.theory.specs.Sums.{when}
+use Rattle.theory.specs.Markets.{Table}
 use Rattle.theory.proofs.Tests.{by-test}
-use Rattle.sheet.specs.Sheets.{offset, worthPlace}
-use Rattle.fields.specs.Fields.{numberAt}
 
--- a worth of the empty bundle, an absent buyer, an absent bundle, and one that there is
-pub worth-empty : (m n : ℕ) (b : List ℕ) (i s : ℕ) → s ≡ 0 → 0 ≡ worthPlace m n b i s
-worth-empty m n b i s e = rw e (by-test (ltb i m && ltb 0 (2 ^ n)) (λ t. rw t) (λ t. rw t))
+-- of bundle s on line i; lines are counted from 0
+abbrev pub cell : ℕ → ℕ → Table → ℕ → ℕ → ℕ
+cell m n v i s = when (ltb i m && ltb s (2 ^ n)) (v i s)
 
-pub worth-nobody : (m n : ℕ) (b : List ℕ) (i s : ℕ) → m ≤ i → 0 ≡ worthPlace m n b i s
-worth-nobody m n b i s h = rw (le-ltb i m h)
+-- of place k
+abbrev pub cellAt : ℕ → ℕ → Table → ℕ → ℕ
+cellAt m n v k = cell m n v (k / 16) (k % 16)
 
-pub worth-nothing : (m n : ℕ) (b : List ℕ) (i s : ℕ) → 2 ^ n ≤ s → 0 ≡ worthPlace m n b i s
-worth-nothing m n b i s g = by-test (ltb i m) (λ t. rw (t, le-ltb s (2 ^ n) g)) (λ t. rw t)
+module _ (m n : ℕ) (v : Table) where
+  pub cell-nobody : (i s : ℕ) → m ≤ i → 0 ≡ cell m n v i s
+  cell-nobody i s h = rw (le-ltb i m h)
 
-pub worth-there : (m n : ℕ) (b : List ℕ) (i c : ℕ) → i < m → suc c < 2 ^ n → numberAt (offset n i c) b ≡ worthPlace m n b i (suc c)
-worth-there m n b i c h g = rw (lt-ltb i m h, lt-ltb (suc c) (2 ^ n) g)
+  pub cell-nothing : (i s : ℕ) → 2 ^ n ≤ s → 0 ≡ cell m n v i s
+  cell-nothing i s g = by-test (ltb i m) (λ t. rw (t, le-ltb s (2 ^ n) g)) (λ t. rw t)
+
+  pub cell-there : (i s : ℕ) → i < m → s < 2 ^ n → v i s ≡ cell m n v i s
+  cell-there i s h g = rw (lt-ltb i m h, lt-ltb s (2 ^ n) g)
+
+  pub cell-empty : (i s : ℕ) → (i < m → v i 0 ≡ 0) → s ≡ 0 → 0 ≡ cell m n v i s
+  cell-empty i s free e =
+      rw e
+      (by-test (ltb i m)
+      (λ t. let z = free (ltb-true i m t) in by-test (ltb 0 (2 ^ n)) (λ u. rw (t, u) (sym z)) (λ u. rw (t, u)))
+      (λ t. rw t))
+
+  pub cell-small : (c : ℕ) → ((i s : ℕ) → i < m → s < 2 ^ n → v i s ≤ c) → (i s : ℕ) → cell m n v i s ≤ c
+  cell-small c small i s =
+      by-test (ltb i m)
+      (λ t. by-test (ltb s (2 ^ n))
+      (λ u. rw (t, u) (small i s (ltb-true i m t) (ltb-true s (2 ^ n) u)))
+      (λ u. rw (t, u) (omega arith)))
+      (λ t. rw t (omega arith))

@@ -1,5 +1,6 @@
--- What is known of every sheet's fault, and of every accepted sheet: `refusal-range`, `place-zero`, `place-least`, `accepted-shape`, `accepted-monotone`,
--- `accepted-written`. -- (`first-no` stands in Faults, `field-canonical` in Canonical.) Assumes nothing.
+-- What is known of every sheet's fault, and of every accepted sheet: `refusal-range`, `place-zero`, `place-inside`,
+-- `place-least`, `accepted-shape`, `accepted-grows`, `accepted-monotone`, `accepted-written`. (`first-no` stands in
+-- Faults, `field-canonical` in Canonical.) Assumes nothing.
 use mathlib.Core.Path.{_≡_, refl, sym, ap, subst, _∙_}
 use mathlib.Core.Logic.{_↔_}
 use mathlib.Core.Bool.{Bool, true}
@@ -14,18 +15,17 @@ use Rattle.theory.proofs.Tests.{by-test}
 use Rattle.theory.proofs.Rounds.{by-choice}
 use Rattle.sheet.specs.declared.Fault.{Fault}
 use Rattle.fields.specs.Fields.{numberOf, columns}
-use Rattle.sheet.specs.Sheets.{lineLength, offset, Sheet, sheetOf, worth}
+use Rattle.sheet.specs.Sheets.{lineLength, offset, Sheet, sheetOf, worth, worthIn, worthsIn}
 use Rattle.numbers.specs.Numbers.{bit}
 use Rattle.fields.specs.Fields.{numberAt}
 use Rattle.sheet.specs.Questions.{fault, ask, askEach, headGood, between, rightLength, wrong, firstWrong, linesFault, sheetFault}
-use Rattle.sheet.specs.Claims.{GoodField, Question, Malformed, TooLarge, Falls, WrongAt, LeastPlace, Shape, Written}
-use Rattle.numbers.proofs.Numbers.{pow-small}
+use Rattle.sheet.specs.Claims.{GoodField, Question, Malformed, TooLarge, Falls, WrongAt, LeastPlace}
+use Rattle.sheet.specs.Claims.{Shape, Grows, Written}
 use Rattle.fields.proofs.Canonical.{field-canonical}
 use Rattle.numbers.proofs.Subsets.{subset-monotone}
-use Rattle.sheet.proofs.Places.{worth-nobody, worth-nothing, worth-there}
 use Rattle.sheet.proofs.Lines.{first-place, malformed-means, large-means, falls-means}
-use Rattle.sheet.proofs.Valued.{worths-long, worth-at, worth-none, empty-worth, small-list, growing-worth}
-use Rattle.sheet.proofs.Faults.{large-none, falls-none, all-yes}
+use Rattle.sheet.proofs.Valued.{worth-there, laid-shape, worths-laid, worth-read}
+use Rattle.sheet.proofs.Faults.{growing, all-yes}
 
 module _ (P : Fault → Type 0) where
   ask-cases : (k : ℕ) (x : Bool) (rest : Unit {0} → Fault) → P (fault k 0) → (x ≡ true → P (rest tt)) → P (ask k x rest)
@@ -109,22 +109,19 @@ module _ (b : List ℕ) where
     pub accepted-shape : Shape w
     accepted-shape =
         let m = w .buyers in
-        record {
-          some-buyers = yes-to 3 .0;
-          few-buyers = yes-to 3 .1;
-          some-lots = yes-to 4 .0;
-          few-lots = yes-to 4 .1;
-          long = worths-long m n b;
-          small = small-list m n b (large-none b .1 (yes-to 7));
-          empty = empty-worth m n b;
-          nobody = λ i s h g. worth-none m n b i s h (worth-nobody m n b i s g);
-          nothing = λ i s h g. worth-none m n b i s h (worth-nothing m n b i s g);
-        }
+        let v = worthIn n b in
+        let ws = worthsIn m n b in
+        let laid = worths-laid m n b in
+        laid-shape m n v ws laid (yes-to 3) (yes-to 4) (λ i _. refl) (λ i s h g.
+        rw (← worth-there m n v ws laid (yes-to 3 .1) (yes-to 4 .1) i s h g) (yes-to 7 i s h g))
+
+    pub accepted-grows : Grows w
+    accepted-grows = growing b (yes-to 8)
 
     -- C30: a bundle within another is worth at most as much
     pub accepted-monotone : (i s t : ℕ) → i < w .buyers → s < 2 ^ n → t < 2 ^ n → ((j : ℕ) → j < n → bit j s ≡ true → bit j t ≡ true) → worth w i s ≤ worth w i t
     accepted-monotone i s t h g k sub =
-        subset-monotone n (worth w i) (λ j x l m. growing-worth (w .buyers) n b (falls-none b .1 (yes-to 8)) i x j h m l) s t k sub g
+        subset-monotone n (worth w i) (λ j x l m. accepted-grows i x j h m l) s t k sub g
 
     -- C11, C16: its bytes are those in which its numbers are written
     written : (at : ℕ) → GoodField b at → take 6 (drop at b) ≡ columns 6 (numberAt at b)
@@ -132,15 +129,13 @@ module _ (b : List ℕ) where
 
     pub accepted-written : Written b w
     accepted-written =
-        let s = accepted-shape in
-        let small = pow-small n (s .few-lots) in
         record {
           long = yes-to 5;
           buyers = written 0 (yes-to 2 .0);
           lots = written 6 (yes-to 2 .1);
           head-end = yes-to 2 .2;
           worths = λ i c h g.
-              let there = worth-there (w .buyers) n b i c h g ∙ sym (worth-at (w .buyers) n b i (suc c) (omega arith) (omega (arith, s .few-buyers))) in
-              written (offset n i c) (yes-to 6 .0 i c h g) ∙ ap (columns 6) there;
+              written (offset n i c) (yes-to 6 .0 i c h g)
+              ∙ ap (columns 6) (sym (worth-read (w .buyers) n b (yes-to 3 .1) (yes-to 4 .1) i c h g));
           ends = yes-to 6 .1;
         }

@@ -64,6 +64,11 @@ pub record LeastPlace (w : Sheet) (T : ℕ → ℕ → Type 0) (p : ℕ) : Type 
   pub found : WrongAt w T p
   pub least : (q : ℕ) → WrongAt w T q → p ≤ q
 
+-- the place of a refusal with 6, 7 or 8
+abbrev pub Placed : List ℕ → ℕ → ℕ → Type 0
+Placed b number p = let w = sheetOf b in
+    (number ≡ 6 → LeastPlace w (λ i c. Malformed w i c b) p) × (number ≡ 7 → LeastPlace w (TooLarge w) p) × (number ≡ 8 → LeastPlace w (Falls w) p)
+
 -- an accepted sheet's shape: "m from 1 to 6 and n from 1 to 4. A worth is 0 to 9,999; the empty bundle is worth 0"; absent buyers and bundles have worth 0
 pub record Shape (w : Sheet) : Type 0 where
   pub some-buyers : 1 ≤ w .buyers
@@ -100,10 +105,7 @@ pub record Sheets : Type 0 where
   -- the place is 0, or with 6, 7 and 8 the least offset of what is wrong
   pub place-zero : (b : List ℕ) → sheetFault b .number < 6 → sheetFault b .place ≡ 0
   pub place-inside : (b : List ℕ) → 6 ≤ sheetFault b .number → (13 ≤ sheetFault b .place) × (sheetFault b .place < length b)
-  pub place-least : (b : List ℕ) → let w = sheetOf b in
-      (sheetFault b .number ≡ 6 → LeastPlace w (λ i c. Malformed w i c b) (sheetFault b .place))
-      × (sheetFault b .number ≡ 7 → LeastPlace w (TooLarge w) (sheetFault b .place))
-      × (sheetFault b .number ≡ 8 → LeastPlace w (Falls w) (sheetFault b .place))
+  pub place-least : (b : List ℕ) → Placed b (sheetFault b .number) (sheetFault b .place)
   -- an accepted sheet is a table of worths that grow, as it is written; and every such table, so written, is accepted and read as it is
   pub accepted-shape : (b : List ℕ) → sheetFault b .number ≡ 0 → Shape (sheetOf b)
   pub accepted-monotone : (b : List ℕ) → sheetFault b .number ≡ 0 → let w = sheetOf b in (i s t : ℕ) → i < w .buyers → s < 2 ^ w .lots → t < 2 ^ w .lots →

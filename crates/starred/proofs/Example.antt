@@ -1,4 +1,4 @@
--- Document 01's example is printed as document 01 has it (`example`), by computing. Assumes nothing.
+-- Document 01's example and table 3 are printed as document 01 has them (`example`), by computing. Assumes nothing.
 use mathlib.Core.Path.{refl}
 use Rattle.owners.specs.Singles as singles
 use Rattle.sheet.specs.Sheets.{worthsIn}
@@ -13,4 +13,4 @@ pub example : Example
 unfolding
     worthsIn sheetFault linesFault firstWrong seats singles.startPrices singles.saleSets singles.salePrices raised saleSets lastPrices ownersBy discountFor paymentFor
     settledSale printedSale
-example = refl
+example = (refl, refl)

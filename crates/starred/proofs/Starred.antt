@@ -3,6 +3,7 @@ use mathlib.Core.Path.{refl}
 use Rattle.owners.specs.Singles as singles
 use Rattle.sheet.specs.Sheets.{worthsIn}
 use Rattle.sheet.specs.Questions.{sheetFault, linesFault, firstWrong}
+use Rattle.sheet.specs.Answers.{worthsBy, worthsRead, sheetRead}
 use Rattle.totals.specs.Seats.{seats}
 use Rattle.sale.specs.Rounds.{raised, saleSets, lastPrices, ownersBy, discountFor, paymentFor}
 use Rattle.sale.specs.Answers.{refusedSale, settledSale, saleAnswer, saleRecord}
@@ -13,5 +14,5 @@ use Rattle.starred.specs.Starred.{Starred}
 pub starred : Starred
 unfolding
     worthsIn sheetFault linesFault firstWrong seats singles.startPrices singles.saleSets singles.salePrices raised saleSets lastPrices ownersBy discountFor paymentFor
-    refusedSale settledSale saleAnswer saleRecord directOwners directPayment refusedDirect reckoned directAnswer
+    worthsBy worthsRead sheetRead refusedSale settledSale saleAnswer saleRecord directOwners directPayment refusedDirect reckoned directAnswer
 starred = refl

@@ -1,4 +1,4 @@
--- Document 01's example of a printed sale, byte by byte: its numbers have one digit each.
+-- Document 01's example of a printed sale, and table 3's, byte by byte: their numbers have one digit each.
 use mathlib.Core.Path.{_≡_}
 use mathlib.Core.List.{List, [], _∷_, _++_}
 use Prim.Native.Nat.{ℕ, _+_}
@@ -20,5 +20,14 @@ input = row (2 ∷ 2 ∷ []) ++ row (2 ∷ 0 ∷ 2 ∷ []) ++ row (0 ∷ 1 ∷ 3
 abbrev pub output : List ℕ
 output = row (0 ∷ 2 ∷ 2 ∷ 2 ∷ []) ++ row (1 ∷ 1 ∷ []) ++ row (2 ∷ 2 ∷ []) ++ row (1 ∷ 2 ∷ 0 ∷ 2 ∷ []) ++ row (2 ∷ 0 ∷ 0 ∷ 0 ∷ [])
 
+-- table 3 of source document 000, where rounds and lots differ, and so do prices, discounts and payments
+abbrev pub table-3 : List ℕ
+table-3 = row (3 ∷ 2 ∷ []) ++ row (3 ∷ 0 ∷ 3 ∷ []) ++ row (0 ∷ 6 ∷ 6 ∷ []) ++ row (0 ∷ 2 ∷ 4 ∷ [])
+
+abbrev pub table-3-print : List ℕ
+table-3-print =
+    row (0 ∷ 3 ∷ 2 ∷ 9 ∷ []) ++ row (1 ∷ 1 ∷ []) ++ row (2 ∷ 2 ∷ [])
+    ++ row (1 ∷ 2 ∷ 2 ∷ 0 ∷ []) ++ row (2 ∷ 4 ∷ 2 ∷ 2 ∷ []) ++ row (3 ∷ 0 ∷ 0 ∷ 0 ∷ [])
+
 abbrev pub Example : Type 0
-Example = printedSale input ≡ output
+Example = (printedSale input ≡ output) × (printedSale table-3 ≡ table-3-print)

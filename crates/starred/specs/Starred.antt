@@ -1,17 +1,22 @@
--- The starred sales of document 01 as one table, with rows that catch what those miss. A row has a sheet, the record's length, and the answers of a sale and of
--- the direct way. Sheets are given by their numbers: `sheetBy` lays out the bytes.
+-- The starred sales of document 01 as one table, with rows that catch what those miss. A row has a sheet, the record's length, the answers of reading, of a sale
+-- and of the direct way, and all owner lists of greatest total. Sheets are given by their numbers: `sheetBy` lays out the bytes.
 use mathlib.Core.Path.{_≡_}
 use mathlib.Core.List.{List, [], _∷_, _++_, map}
 use Prim.Native.Nat.{ℕ, _-_}
+use lib.Dec.{eqb}
 use lib.ListN.{length, take, set, replicate}
 use Rattle.fields.specs.Fields.{linesOf}
-use Rattle.sheet.specs.Questions.{fault}
-use Rattle.theory.specs.Lists.{over}
+use Rattle.sheet.specs.declared.Read.{Read}
+use Rattle.sheet.specs.Sheets.{sheetOf}
+use Rattle.sheet.specs.Questions.{accepts, onward, sheetFault}
+use Rattle.sheet.specs.Answers.{sheetRead}
+use Rattle.theory.specs.Lists.{keep, over}
 use Rattle.totals.specs.Walks.{four}
+use Rattle.totals.specs.Words.{allocations, totalOf, greatestWithout}
 use Rattle.sale.specs.declared.Sale.{Sale}
-use Rattle.sale.specs.Answers.{refusedSale, saleAnswer, saleRecord}
+use Rattle.sale.specs.Answers.{saleAnswer, saleRecord}
 use Rattle.direct.specs.declared.Direct.{Direct}
-use Rattle.direct.specs.Answers.{refusedDirect, directAnswer}
+use Rattle.direct.specs.Answers.{directAnswer}
 
 -- the bytes of a sheet of m buyers and n lots
 abbrev pub sheetBy : ℕ → ℕ → List (List ℕ) → List ℕ
@@ -28,16 +33,20 @@ padded k l = l ++ replicate (k - length l) 0
 pub record Row : Type 0 where
   pub sheet : List ℕ
   pub room : ℕ
+  pub read : Read
   pub sale : Sale
   pub sets : List ℕ
   pub direct : Direct
+  pub greatest : List (List ℕ)
 
--- worths, the record's length; the sets of the rounds, the last prices; owners, discounts, payments and the greatest total
-abbrev pub sold : ℕ → ℕ → List (List ℕ) → ℕ → List ℕ → List (List ℕ) → List ℕ → List ℕ → List ℕ → ℕ → Row
-sold m n worths room sets prices owners discounts payments total =
+-- worths, the record's length; the sets of the rounds, the last prices; owners, discounts, payments and the greatest total; and the lists of that total that come
+-- after the owners, in order
+abbrev pub sold : ℕ → ℕ → List (List ℕ) → ℕ → List ℕ → List (List ℕ) → List ℕ → List ℕ → List ℕ → ℕ → List (List ℕ) → Row
+sold m n worths room sets prices owners discounts payments total ties =
     record {
       sheet = sheetBy m n worths;
       room = room;
+      read = record { number = 0; place = 0; buyers = m; lots = n };
       sale = record {
         number = 0;
         place = 0;
@@ -51,55 +60,87 @@ sold m n worths room sets prices owners discounts payments total =
       };
       sets = sets;
       direct = record { number = 0; place = 0; total = total; owners = four owners; payments = padded 6 payments };
+      greatest = owners ∷ ties;
     }
 
--- a record that is too short; the direct way has none
-abbrev pub tooShort : ℕ → ℕ → List (List ℕ) → ℕ → List ℕ → List ℕ → ℕ → Row
-tooShort m n worths room owners payments total =
+-- "A refusal returns its number and place, every other number 0"
+abbrev pub noSale : ℕ → ℕ → Sale
+noSale number place =
+    record {
+      number = number;
+      place = place;
+      buyers = 0;
+      lots = 0;
+      rounds = 0;
+      prices = replicate 96 0;
+      owners = 0 ∷ 0 ∷ 0 ∷ 0 ∷ [];
+      discounts = 0 ∷ 0 ∷ 0 ∷ 0 ∷ 0 ∷ 0 ∷ [];
+      payments = 0 ∷ 0 ∷ 0 ∷ 0 ∷ 0 ∷ 0 ∷ [];
+    }
+
+-- a record that is too short; reading and the direct way have none
+abbrev pub tooShort : ℕ → ℕ → List (List ℕ) → ℕ → List ℕ → List ℕ → ℕ → List (List ℕ) → Row
+tooShort m n worths room owners payments total ties =
     record {
       sheet = sheetBy m n worths;
       room = room;
-      sale = refusedSale (fault 9 0);
+      read = record { number = 0; place = 0; buyers = m; lots = n };
+      sale = noSale 9 0;
       sets = [];
       direct = record { number = 0; place = 0; total = total; owners = four owners; payments = padded 6 payments };
+      greatest = owners ∷ ties;
     }
 
 -- a sheet that is refused, with a number and a place
 abbrev pub refuses : List ℕ → ℕ → ℕ → Row
 refuses sheet number place =
-    record { sheet = sheet; room = 20; sale = refusedSale (fault number place); sets = []; direct = refusedDirect (fault number place) }
+    record {
+      sheet = sheet;
+      room = 20;
+      read = record { number = number; place = place; buyers = 0; lots = 0 };
+      sale = noSale number place;
+      sets = [];
+      direct = record {
+        number = number;
+        place = place;
+        total = 0;
+        owners = 0 ∷ 0 ∷ 0 ∷ 0 ∷ [];
+        payments = 0 ∷ 0 ∷ 0 ∷ 0 ∷ 0 ∷ 0 ∷ [];
+      };
+      greatest = [];
+    }
 
 abbrev pub rows : List Row
 rows =
     -- "The sheet above: record 3 3; owners (2,2) reach the same total, but (1,2) comes first." "The same with a record of 5 bytes: settled."
     sold 2 2 ((2 ∷ 0 ∷ 2 ∷ []) ∷ (0 ∷ 1 ∷ 3 ∷ []) ∷ []) 5
     (3 ∷ 3 ∷ []) ((2 ∷ 0 ∷ 2 ∷ []) ∷ (0 ∷ 0 ∷ 2 ∷ []) ∷ [])
-    (1 ∷ 2 ∷ []) (0 ∷ 0 ∷ []) (2 ∷ 0 ∷ []) 3 ∷
+    (1 ∷ 2 ∷ []) (0 ∷ 0 ∷ []) (2 ∷ 0 ∷ []) 3 ((2 ∷ 2 ∷ []) ∷ []) ∷
     -- "With 4: refusal 9."
     tooShort 2 2 ((2 ∷ 0 ∷ 2 ∷ []) ∷ (0 ∷ 1 ∷ 3 ∷ []) ∷ []) 4
-    (1 ∷ 2 ∷ []) (2 ∷ 0 ∷ []) 3 ∷
+    (1 ∷ 2 ∷ []) (2 ∷ 0 ∷ []) 3 ((2 ∷ 2 ∷ []) ∷ []) ∷
     -- "Table 3 of source document 000"
     sold 3 2 ((3 ∷ 0 ∷ 3 ∷ []) ∷ (0 ∷ 6 ∷ 6 ∷ []) ∷ (0 ∷ 2 ∷ 4 ∷ []) ∷ []) 13
     (5 ∷ 2 ∷ 4 ∷ 1 ∷ 2 ∷ 4 ∷ 2 ∷ 4 ∷ 2 ∷ []) ((2 ∷ 0 ∷ 2 ∷ []) ∷ (0 ∷ 4 ∷ 4 ∷ []) ∷ (0 ∷ 2 ∷ 4 ∷ []) ∷ [])
-    (1 ∷ 2 ∷ []) (2 ∷ 2 ∷ 0 ∷ []) (0 ∷ 2 ∷ 0 ∷ []) 9 ∷
+    (1 ∷ 2 ∷ []) (2 ∷ 2 ∷ 0 ∷ []) (0 ∷ 2 ∷ 0 ∷ []) 9 [] ∷
     -- "One lot, worths 5 and 3: record 3 3 3, owner 1, payments 3, 0."
     sold 2 1 ((5 ∷ []) ∷ (3 ∷ []) ∷ []) 8
     (3 ∷ 3 ∷ 3 ∷ []) ((3 ∷ []) ∷ (3 ∷ []) ∷ [])
-    (1 ∷ []) (0 ∷ 0 ∷ []) (3 ∷ 0 ∷ []) 5 ∷
+    (1 ∷ []) (0 ∷ 0 ∷ []) (3 ∷ 0 ∷ []) 5 [] ∷
     -- "One lot, worths 4 and 4: four rounds, owner 1, payments 4, 0."
     sold 2 1 ((4 ∷ []) ∷ (4 ∷ []) ∷ []) 8
     (3 ∷ 3 ∷ 3 ∷ 3 ∷ []) ((4 ∷ []) ∷ (4 ∷ []) ∷ [])
-    (1 ∷ []) (0 ∷ 0 ∷ []) (4 ∷ 0 ∷ []) 4 ∷
+    (1 ∷ []) (0 ∷ 0 ∷ []) (4 ∷ 0 ∷ []) 4 ((2 ∷ []) ∷ []) ∷
     -- "One buyer, one lot, worth 7: no round, owner 1, payment 0; the record must still have 7 bytes."
     sold 1 1 ((7 ∷ []) ∷ []) 7
     [] ((0 ∷ []) ∷ [])
-    (1 ∷ []) (0 ∷ []) (0 ∷ []) 7 ∷
+    (1 ∷ []) (0 ∷ []) (0 ∷ []) 7 [] ∷
     tooShort 1 1 ((7 ∷ []) ∷ []) 6
-    (1 ∷ []) (0 ∷ []) 7 ∷
+    (1 ∷ []) (0 ∷ []) 7 [] ∷
     -- "One lot, two worths of 0: no round, owner 0."
     sold 2 1 ((0 ∷ []) ∷ (0 ∷ []) ∷ []) 0
     [] ((0 ∷ []) ∷ (0 ∷ []) ∷ [])
-    (0 ∷ []) (0 ∷ 0 ∷ []) (0 ∷ 0 ∷ []) 0 ∷
+    (0 ∷ []) (0 ∷ 0 ∷ []) (0 ∷ 0 ∷ []) 0 ((1 ∷ []) ∷ (2 ∷ []) ∷ []) ∷
     -- "12 bytes: 1." "A sole good first line, 1 and 1: 5."
     refuses (take 12 (sheetBy 2 2 ((2 ∷ 0 ∷ 2 ∷ []) ∷ (0 ∷ 1 ∷ 3 ∷ []) ∷ []))) 1 0 ∷
     refuses (sheetBy 1 1 []) 5 0 ∷
@@ -112,32 +153,40 @@ rows =
     -- the economies that lack only a loser show in the record
     sold 3 2 ((0 ∷ 1 ∷ 1 ∷ []) ∷ (0 ∷ 0 ∷ 2 ∷ []) ∷ (1 ∷ 0 ∷ 1 ∷ []) ∷ []) 4
     (3 ∷ 4 ∷ 2 ∷ []) ((0 ∷ 1 ∷ 1 ∷ []) ∷ (0 ∷ 0 ∷ 2 ∷ []) ∷ (1 ∷ 0 ∷ 1 ∷ []) ∷ [])
-    (2 ∷ 2 ∷ []) (0 ∷ 0 ∷ 0 ∷ []) (0 ∷ 2 ∷ 0 ∷ []) 2 ∷
+    (2 ∷ 2 ∷ []) (0 ∷ 0 ∷ 0 ∷ []) (0 ∷ 2 ∷ 0 ∷ []) 2 ((3 ∷ 1 ∷ []) ∷ []) ∷
     -- the last lot is not compared first
     sold 2 2 ((1 ∷ 1 ∷ 1 ∷ []) ∷ (1 ∷ 1 ∷ 1 ∷ []) ∷ []) 2
     [] ((0 ∷ 0 ∷ 0 ∷ []) ∷ (0 ∷ 0 ∷ 0 ∷ []) ∷ [])
-    (1 ∷ 2 ∷ []) (0 ∷ 0 ∷ []) (0 ∷ 0 ∷ []) 2 ∷
+    (1 ∷ 2 ∷ []) (0 ∷ 0 ∷ []) (0 ∷ 0 ∷ []) 2 ((2 ∷ 1 ∷ []) ∷ []) ∷
     -- table 3 with its buyers in other orders
     sold 3 2 ((3 ∷ 0 ∷ 3 ∷ []) ∷ (0 ∷ 2 ∷ 4 ∷ []) ∷ (0 ∷ 6 ∷ 6 ∷ []) ∷ []) 13
     (3 ∷ 3 ∷ 4 ∷ 2 ∷ 4 ∷ 2 ∷ 4 ∷ 4 ∷ []) ((2 ∷ 0 ∷ 2 ∷ []) ∷ (0 ∷ 2 ∷ 4 ∷ []) ∷ (0 ∷ 4 ∷ 4 ∷ []) ∷ [])
-    (1 ∷ 3 ∷ []) (2 ∷ 0 ∷ 2 ∷ []) (0 ∷ 0 ∷ 2 ∷ []) 9 ∷
+    (1 ∷ 3 ∷ []) (2 ∷ 0 ∷ 2 ∷ []) (0 ∷ 0 ∷ 2 ∷ []) 9 [] ∷
     sold 3 2 ((0 ∷ 6 ∷ 6 ∷ []) ∷ (0 ∷ 2 ∷ 4 ∷ []) ∷ (3 ∷ 0 ∷ 3 ∷ []) ∷ []) 13
     (3 ∷ 3 ∷ 3 ∷ 3 ∷ 4 ∷ 4 ∷ []) ((0 ∷ 4 ∷ 4 ∷ []) ∷ (0 ∷ 2 ∷ 4 ∷ []) ∷ (2 ∷ 0 ∷ 2 ∷ []) ∷ [])
-    (3 ∷ 1 ∷ []) (2 ∷ 0 ∷ 2 ∷ []) (2 ∷ 0 ∷ 0 ∷ []) 9 ∷
+    (3 ∷ 1 ∷ []) (2 ∷ 0 ∷ 2 ∷ []) (2 ∷ 0 ∷ 0 ∷ []) 9 [] ∷
     []
+
+-- the owner lists of greatest total, in order
+abbrev pub greatestLists : List ℕ → List (List ℕ)
+greatestLists b =
+    let w = sheetOf b in
+    onward (accepts (sheetFault b)) (λ _. keep (λ a. eqb (totalOf w a) (greatestWithout w 0)) (allocations w)) []
 
 -- what the definitions answer for a row, and what the row has; the record has other bytes before the sale
 abbrev pub Answers : Type 0
-Answers = Sale × List ℕ × Direct
+Answers = Read × Sale × List ℕ × Direct × List (List ℕ)
 
 abbrev pub before : Row → List ℕ
 before r = replicate (r .room) 170
 
 abbrev pub told : Row → Answers
-told r = (saleAnswer (r .sheet) (r .room), saleRecord (r .sheet) (before r), directAnswer (r .sheet))
+told r =
+    let b = r .sheet in
+    (sheetRead b, saleAnswer b (r .room), saleRecord b (before r), directAnswer b, greatestLists b)
 
 abbrev pub meant : Row → Answers
-meant r = (r .sale, over (r .sets) (before r), r .direct)
+meant r = (r .read, r .sale, over (r .sets) (before r), r .direct, r .greatest)
 
 abbrev pub Starred : Type 0
 Starred = map told rows ≡ map meant rows

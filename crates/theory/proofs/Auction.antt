@@ -1,5 +1,6 @@
--- What the tests say, at any prices (`supplied-means`, `undersupplied-means`). The lowest undersupplied set is the
--- least and is minimal (`lowest-least`, `lowest-minimal`); there is none exactly if each economy supplies its keen
+-- What the tests say, at any prices (`supplied-means`, `undersupplied-means`). If a set is undersupplied, that of all
+-- keen bidders is (`undersupplied-keen`). The lowest undersupplied set is the least, and no proper subset of it is
+-- undersupplied (`lowest-least`, `lowest-minimal`); there is none exactly if each economy supplies its keen
 -- bidders (`settled-iff`), and so has an equilibrium where they answer truthfully (`supplied-equilibrium`).
 use mathlib.Core.Path.{_≡_, sym, _∙_}
 use mathlib.Core.Logic.{_↔_}
@@ -59,6 +60,16 @@ module _ {A : Type 0} (M : Market A) (q : Quote) where
       undersupplied-means es set′ .1 (
         λ i r w. keen i r (same i r ∙ w),
         (e, m, λ w. short (supplied-fewer set set′ (λ i r p. sym (same i r) ∙ p) e w)),
+      )
+
+  -- if some set is undersupplied, then so is that of all keen bidders
+  pub undersupplied-keen : (es : List (Economy A)) (set all : ℕ → Bool) → undersupplied M q es set ≡ true →
+      ((i : ℕ) → Bidder M i → all i ≡ q .keen i) → undersupplied M q es all ≡ true
+  undersupplied-keen es set all h same =
+      let (keen, (e, m, short)) = undersupplied-means es set .0 h in
+      undersupplied-means es all .1 (
+        λ i r w. sym (same i r) ∙ w,
+        (e, m, λ w. short (supplied-fewer set all (λ i r p. same i r ∙ keen i r p) e w)),
       )
 
   module _ (es : List (Economy A)) (member : ℕ → ℕ → Bool) (sets : ℕ) where

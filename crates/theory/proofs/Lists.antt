@@ -1,15 +1,17 @@
 -- Laws of the greatest value (`most-upper`, `most-reached`, `most-is`), of kept members (`keep-in`, `keep-from`), of
--- the first that passes (`first-in`, `first-passes`, `first-before`), of ordered lists and of lists of values.
-use mathlib.Core.Path.{_≡_, refl, ap, _∙_}
+-- the first that passes (`first-in`, `first-passes`, `first-before`), of ordered lists, of members and sums by their
+-- places (`at-in`, `in-at`, `sum-list`), and of lists of values.
+use mathlib.Core.Path.{_≡_, refl, sym, ap, _∙_}
 use mathlib.Core.Bool.{Bool, true}
 use mathlib.Core.List.{List, [], _∷_, _++_, List·Memᴰ·head as here, List·Memᴰ·tail as there, List·Memᴰ·not-nil, List·Memᴰ·cases-cons, List·Memᴰ·append-cases}
 use mathlib.Core.Logic.{_⊎_, inl, inr}
-use Prim.Native.Nat.{ℕ, zero, suc, _+_, _≤_, _<_}
+use Prim.Native.Nat.{ℕ, zero, suc, _+_, _-_, _≤_, _<_}
 use native.Mathlib.Omega.{arith}
 use native.Mathlib.Decide.{decLe, ℕ-discrete}
 use lib.ListN.{length, getD, replicate}
-use Rattle.theory.specs.Sums.{Among}
-use Rattle.theory.specs.Lists.{_∈_, most, keep, first, Ordered, tabulate, upTo}
+use Rattle.theory.specs.Sums.{sum, Among}
+use Rattle.theory.specs.Lists.{_∈_, most, sumOver, keep, first, Ordered, tabulate, upTo}
+use Rattle.theory.proofs.Sums.{sum-same, sum-shift}
 use Rattle.theory.proofs.Tests.{by-test}
 
 module _ {A : Type 0} where
@@ -89,6 +91,31 @@ ordered-append R (a ∷ l) k o p h = (
   ordered-append R l k (o .1) p (λ b c m n. h b c (there m) n),
 )
 
+-- members by their places, d where there is none
+module _ {A : Type 0} (d : A) where
+  pub at-in : (l : List A) (j : ℕ) → j < length l → getD l j d ∈ l
+  at-in [] j h = absurd (omega arith)
+  at-in (a ∷ l) zero h = here refl
+  at-in (a ∷ l) (suc j) h = there (at-in l j (omega arith))
+
+  pub in-at : (l : List A) {a : A} → a ∈ l → (j : ℕ) × (j < length l) × (getD l j d ≡ a)
+  in-at [] m = absurd (List·Memᴰ·not-nil m)
+  in-at (x ∷ l) m =
+      elim (List·Memᴰ·cases-cons m) [
+        | inl e ↦ (0, omega arith, sym e)
+        | inr n ↦ let (j, h, e) = in-at l n in (suc j, omega arith, e)
+      ]
+
+-- a sum over a list's members is one over its places, from 1 on
+pub sum-list : (f : ℕ → ℕ) (l : List ℕ) → sumOver f l ≡ sum (length l) 1 (λ k. f (getD l (k - 1) 0))
+sum-list f [] = refl
+sum-list f (x ∷ l) =
+    let rest = sum-shift (length l) 1 (λ k. f (getD (x ∷ l) (k - 1) 0)) in
+    let same =
+    sum-same (length l) 1 (λ k. f (getD (x ∷ l) (suc k - 1) 0)) (λ k. f (getD l (k - 1) 0)) (λ k r.
+    let e : suc k - 1 ≡ suc (k - 1) = omega arith in ap (λ j. f (getD (x ∷ l) j 0)) e) in
+    omega (arith, sum-list f l, rest, same)
+
 pub zeros-at : (n k : ℕ) → _≡_ {A = ℕ} (getD (replicate n 0) k 0) 0
 zeros-at zero k = refl
 zeros-at (suc n) zero = refl
@@ -107,6 +134,23 @@ pub tabulate-same : {A : Type 0} (k s : ℕ) (f g : ℕ → A) → ((j : ℕ) �
     tabulate k s f ≡ tabulate k s g
 tabulate-same zero s f g h = refl
 tabulate-same (suc k) s f g h = rw (h s (omega arith), tabulate-same k (suc s) f g (λ j r. h j (omega arith)))
+
+-- the last value apart, and a range that begins one later
+pub tabulate-last : {A : Type 0} (k s : ℕ) (f : ℕ → A) → tabulate (suc k) s f ≡ tabulate k s f ++ (f (s + k) ∷ [])
+tabulate-last zero s f = ap (λ i. f i ∷ []) (omega arith)
+tabulate-last (suc k) s f =
+    ap (λ l. f s ∷ l) (tabulate-last k (suc s) f ∙ ap (λ i. tabulate k (suc s) f ++ (f i ∷ [])) (omega arith))
+
+pub tabulate-shift : {A : Type 0} (k s : ℕ) (f : ℕ → A) → tabulate k (suc s) f ≡ tabulate k s (λ i. f (suc i))
+tabulate-shift zero s f = refl
+tabulate-shift (suc k) s f = ap (λ l. f (suc s) ∷ l) (tabulate-shift k (suc s) f)
+
+-- what holds of each value holds of what stands at each place, if also past the end
+pub tabulate-each : {A : Type 0} (P : A → Type 0) (d : A) (k s : ℕ) (f : ℕ → A) → P d →
+    ((i : ℕ) → Among k s i → P (f i)) → (j : ℕ) → P (getD (tabulate k s f) j d)
+tabulate-each P d zero s f past h j = past
+tabulate-each P d (suc k) s f past h zero = h s (omega arith)
+tabulate-each P d (suc k) s f past h (suc j) = tabulate-each P d k (suc s) f past (λ i r. h i (omega arith)) j
 
 pub upTo-in : (k s : ℕ) {i : ℕ} → Among k s i → i ∈ upTo k s
 upTo-in zero s r = absurd (omega arith)

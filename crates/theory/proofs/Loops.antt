@@ -124,5 +124,9 @@ filled-all f n k l h g =
     ext-getD 0 l (tabulate n 0 f) (g .long ∙ sym (tabulate-length n 0 f))
     (λ j q. g .done j (omega (arith, g .long)) ∙ sym (tabulate-at n 0 f j 0 (omega (arith, g .long)) ∙ ap f (zero-add j)))
 
+pub filled-tabulate : (f : ℕ → ℕ) (n : ℕ) → Filled f n n (tabulate n 0 f)
+filled-tabulate f n =
+    record { long = tabulate-length n 0 f; done = λ j h. tabulate-at n 0 f j 0 h ∙ ap f (zero-add j) }
+
 pub filled-copy : (n k : ℕ) (l t : List ℕ) → n ≤ k → length l ≡ n → Filled (λ j. getD l j 0) n k t → t ≡ l
 filled-copy n k l t h e g = ext-getD 0 t l (g .long ∙ sym e) (λ j q. g .done j (omega (arith, g .long)))

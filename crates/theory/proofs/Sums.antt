@@ -1,8 +1,9 @@
--- Laws of sums over a range: order (`sum-mono`, `sum-tight`), addition (`sum-add`), and sums of functions that differ
--- at one place (`sum-but`, `sum-swap`).
+-- Laws of sums over a range: order (`sum-mono`, `sum-tight`), addition (`sum-add`), the last term (`sum-last`), a later
+-- range (`sum-shift`), and sums of functions that differ at one place (`sum-but`, `sum-swap`).
 use mathlib.Core.Path.{_≡_, refl, ap}
 use mathlib.Core.Logic.{_≢_}
 use Prim.Native.Nat.{ℕ, zero, suc, _+_, _*_, _≤_}
+use native.Mathlib.Nat.{add-zero}
 use native.Mathlib.Omega.{arith}
 use native.Mathlib.Decide.{ℕ-discrete}
 use Rattle.theory.specs.Sums.{sum, Among}
@@ -30,6 +31,15 @@ sum-zero (suc k) s = omega (arith, sum-zero k (suc s))
 pub sum-const : (k s c : ℕ) → sum k s (λ _. c) ≡ c * k
 sum-const zero s c = omega arith
 sum-const (suc k) s c = omega (arith, sum-const k (suc s) c)
+
+-- the last term apart, and a range that begins one later
+pub sum-last : (k s : ℕ) (f : ℕ → ℕ) → sum (suc k) s f ≡ sum k s f + f (s + k)
+sum-last zero s f = omega (arith, ap f (add-zero s))
+sum-last (suc k) s f = let e : suc s + k ≡ s + suc k = omega arith in omega (arith, sum-last k (suc s) f, ap f e)
+
+pub sum-shift : (k s : ℕ) (f : ℕ → ℕ) → sum k (suc s) f ≡ sum k s (λ i. f (suc i))
+sum-shift zero s f = refl
+sum-shift (suc k) s f = omega (arith, sum-shift k (suc s) f)
 
 -- where f is at most g at every place but i, so are their sums without that place
 pub sum-but : (k s : ℕ) (f g : ℕ → ℕ) (i : ℕ) → Among k s i →

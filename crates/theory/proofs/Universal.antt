@@ -1,18 +1,19 @@
--- Prices are settled exactly if they are a universal competitive equilibrium (`settled-universal`).
+-- Prices are settled exactly if they are a universal competitive equilibrium (`settled-universal`); the closing's
+-- allocation is then a competitive one (`closing-competitive`).
 -- Assumes bidders that answer by their greatest payoffs over all bundles, as they do at a sale's own prices.
-use mathlib.Core.Path.{_≡_}
+use mathlib.Core.Path.{_≡_, refl}
 use mathlib.Core.Logic.{_↔_}
-use mathlib.Core.Bool.{Bool}
+use mathlib.Core.Bool.{Bool, true}
 use mathlib.Core.List.{List}
 use Prim.Native.Nat.{ℕ}
 use native.Mathlib.Omega.{arith}
 use Rattle.theory.specs.Lists.{_∈_}
 use Rattle.theory.specs.Markets.{Market, Table, total, Equilibrium, only}
-use Rattle.theory.specs.Auction.{Economy, Quote, supplied, lowest, Numbered, Truthful, Absent}
+use Rattle.theory.specs.Auction.{Economy, Quote, whole, fits, serves, closes, supplied, lowest, closing, Numbered, Truthful, Absent}
 use Rattle.theory.specs.Universal.{Competitive, Universal, Answers, Bundled}
-use Rattle.theory.proofs.Tests.{Means, means-via, by-test}
-use Rattle.theory.proofs.Lists.{most-upper, most-is}
-use Rattle.theory.proofs.Auction.{settled-iff, supplied-equilibrium}
+use Rattle.theory.proofs.Tests.{Means, means-via, itself, and-means, some-means, by-test, fails}
+use Rattle.theory.proofs.Lists.{most-upper, most-is, first-in, first-passes}
+use Rattle.theory.proofs.Auction.{settled-iff, closes-equilibrium, supplied-equilibrium}
 
 module _
     {A : Type 0} (M : Market A) (bundle : ℕ → Type 0) (v : Table) (b : ℕ → ℕ) (q : Quote)
@@ -53,6 +54,21 @@ module _
       means-via (supplied-equilibrium M v b q e (answers-truthful (e .lists) held) absent)
       (λ (a, m, x). (a, equilibrium-competitive e held absent m .0 x))
       (λ (a, c). (a, c .among, equilibrium-competitive e held absent (c .among) .1 c))
+
+  -- where all together are supplied, the closing's allocation fits and is a competitive equilibrium
+  pub closing-competitive : (al : List A) → Bundled M bundle al → supplied M q (q .keen) (whole al) ≡ true → (d : A) →
+      (fits M q al (closing M q al d) ≡ true) × Competitive M bundle v (q .prices) (whole al) (closing M q al d)
+  closing-competitive al held served d =
+      let closes-all = closes M q (q .keen) al in
+      let (a, m, e) = some-means al (λ a m. itself (closes-all a)) .0 served in
+      let m′ = first-in closes-all d m e in
+      let e′ = first-passes closes-all d m e in
+      let absent : Absent M (whole al) = λ a m i r p. fails refl p in
+      let truthful = answers-truthful al held in (
+        and-means (itself (fits M q al (closing M q al d))) (itself (serves M q (q .keen) (closing M q al d))) .0 e′ .0,
+        equilibrium-competitive (whole al) held absent m′ .0
+            (closes-equilibrium M v b q al truthful m′ (λ _. true) (absent (closing M q al d) m′) .0 e′),
+      )
 
   pub settled-universal : (es : List (Economy A)) (member : ℕ → ℕ → Bool) (sets : ℕ) → Numbered M member sets →
       ((e : Economy A) → e ∈ es → Bundled M bundle (e .lists)) → ((e : Economy A) → e ∈ es → Absent M e) →

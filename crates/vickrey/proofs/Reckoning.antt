@@ -71,7 +71,7 @@ module _ (m n : ℕ) (ws : List ℕ) where
       (es : s ≡ bundleFrom single 0 (k + 1) (take n os)) (ew : own ≡ worth ws (k + 1) s) (el : less ≡ greatestAt m n ws (k + 1)) (et : top ≡ greatestWithout w 0) where
     held : s ≡ market w .holds (directOwners w) (suc k)
     held =
-        es ∙ rw (eo, add-one k) (bundle-padded 0 (suc k) n (4 - length (directOwners w)) (directOwners w) (omega (arith, direct-long)) (λ z. omega arith))
+        es ∙ rw (eo, add-one k) (bundle-padded (directOwners w) (suc k) n (omega arith) (omega (arith, direct-long)))
 
     sum-is : less + own ≡ greatestWithout w (suc k) + worthOf w (suc k) (market w .holds (directOwners w) (suc k))
     sum-is = rw (el, ew, add-one k, held) refl

@@ -1,23 +1,23 @@
 -- `lines::worth_place` meets its contract.
-use mathlib.Core.Path.{_≡_, ap, _∙_}
+use mathlib.Core.Path.{_≡_, refl, ap, _∙_}
 use Prim.Native.Nat.{suc, _-_, _/_, _%_}
 use native.Mathlib.Omega.{arith}
 use borrow.Author.Needs.{needs}
 use Rattle.fields.specs.Fields.{numberAt}
-use Rattle.sheet.specs.Sheets.{worthPlace}
-use Rattle.sheet.proofs.Places.{worth-empty, worth-nobody, worth-nothing, worth-there}
+use Rattle.sheet.specs.Sheets.{worthIn, worthPlace}
+use Rattle.sheet.proofs.Places.{cell-empty, cell-nobody, cell-nothing, cell-there}
 use Rattle.lines.proofs.worth_place.Statement.{statement}
 use Rattle.lines.proofs.worth_place.Tie as tie
 
 returns : tie.Need-returns
 returns c =
     let z = c .before .before .args in
-    worth-empty (z .m) (z .n) (z .sheet .now) (z .k / 16) (z .k % 16) (c .if1 .taken)
+    cell-empty (z .m) (z .n) (worthIn (z .n) (z .sheet .now)) (z .k / 16) (z .k % 16) (λ _. refl) (c .if1 .taken)
 
 returns-2 : tie.Need-returns-2
 returns-2 c =
     let z = c .before .before .before .args in
-    worth-nobody (z .m) (z .n) (z .sheet .now) (z .k / 16) (z .k % 16) (c .if2 .taken)
+    cell-nobody (z .m) (z .n) (worthIn (z .n) (z .sheet .now)) (z .k / 16) (z .k % 16) (c .if2 .taken)
 
 bundles-requires : tie.Need-bundles-requires
 bundles-requires c κs = search needs
@@ -25,7 +25,8 @@ bundles-requires c κs = search needs
 returns-3 : tie.Need-returns-3
 returns-3 c =
     let z = c .before .before .before .before .before .args in
-    worth-nothing (z .m) (z .n) (z .sheet .now) (z .k / 16) (z .k % 16) (omega (arith, c .before .bundles .ensures .is))
+    cell-nothing (z .m) (z .n) (worthIn (z .n) (z .sheet .now)) (z .k / 16) (z .k % 16)
+    (omega (arith, c .before .bundles .ensures .is))
 
 sub-offset-of : tie.Need-sub-offset-of
 sub-offset-of c = search needs
@@ -44,7 +45,8 @@ returns-4 c =
     let whole : suc (s - 1) ≡ s = omega arith in
     c .field-number .ensures
     ∙ ap (λ o. numberAt o (z .sheet .now)) (c .before .offset-of .ensures .is)
-    ∙ worth-there (z .m) (z .n) (z .sheet .now) i (s - 1) (omega arith) (omega (arith, c .before .before .before .bundles .ensures .is))
+    ∙ cell-there (z .m) (z .n) (worthIn (z .n) (z .sheet .now)) i (suc (s - 1)) (omega arith)
+    (omega (arith, c .before .before .before .bundles .ensures .is))
     ∙ ap (worthPlace (z .m) (z .n) (z .sheet .now) i) whole
 
 pub worth-place-spec : {M : Type 1} → statement M
