@@ -6,6 +6,7 @@ pub mod generator;
 pub mod halves;
 #[allow(unsafe_code)]
 pub mod library;
+pub mod names;
 pub mod process;
 pub mod program;
 pub mod reckoning;

@@ -1,0 +1,68 @@
+//! The files of Rattle and antt in crates/, and the words of their lines.
+
+use std::collections::HashSet;
+use std::path::{Path, PathBuf};
+use std::{fs, io};
+
+/// A file of a crate, by its path from the repository's root.
+pub struct Source {
+    pub path: String,
+    pub text: String,
+}
+
+/// All files of Rattle and antt, in the order of their paths.
+pub fn collect(root: &Path) -> io::Result<Vec<Source>> {
+    let mut sources = Vec::new();
+    collect_below(root, Path::new("crates"), &mut sources)?;
+    Ok(sources)
+}
+
+fn collect_below(root: &Path, folder: &Path, sources: &mut Vec<Source>) -> io::Result<()> {
+    let mut paths: Vec<PathBuf> = fs::read_dir(root.join(folder))?
+        .map(|entry| entry.map(|entry| folder.join(entry.file_name())))
+        .collect::<io::Result<_>>()?;
+    paths.sort();
+    for path in paths {
+        if root.join(&path).is_dir() {
+            collect_below(root, &path, sources)?;
+        } else if let Some("antt" | "rt") = path.extension().and_then(|ending| ending.to_str()) {
+            sources.push(Source {
+                path: path.display().to_string(),
+                text: fs::read_to_string(root.join(&path))?,
+            });
+        }
+    }
+    Ok(())
+}
+
+/// The file with a path.
+pub fn find<'a>(sources: &'a [Source], path: &str) -> Option<&'a Source> {
+    sources.iter().find(|source| source.path == path)
+}
+
+/// A line before its comment.
+pub fn code(line: &str) -> &str {
+    let line = line.split("--").next().unwrap_or_default();
+    line.split("//").next().unwrap_or_default()
+}
+
+/// What stands between blanks and punctuation.
+pub fn parts(code: &str) -> impl Iterator<Item = &str> {
+    code.split(|c: char| c.is_whitespace() || "(){},;.⌜⌝&*!:".contains(c))
+}
+
+/// The words of a line before its comment.
+pub fn words(line: &str) -> impl Iterator<Item = &str> {
+    let code = code(line);
+    parts(code)
+        .chain(code.split_whitespace())
+        .chain(code.contains("[]").then_some("[]"))
+}
+
+/// Whether a name is among the words. An operator's name has `_` where its arguments stand; it is
+/// written whole, or as the words between them.
+pub fn is_used(name: &str, words: &HashSet<&str>) -> bool {
+    let operator = name.starts_with('_') || name.ends_with('_');
+    let mut parts = name.split('_').filter(|part| !part.is_empty());
+    words.contains(name) || operator && parts.all(|part| words.contains(part))
+}
