@@ -15,11 +15,11 @@ use Rattle.fields.proofs.Canonical.{field-canonical}
 use Rattle.sheet.specs.Sheets.{lineLength, offset, Sheet, asSheet, sheetOf, worth, worthIn, worthPlace, worthsIn}
 use Rattle.sheet.specs.Sheets.{bytesOf}
 use Rattle.sheet.specs.Questions.{sheetFault}
-use Rattle.sheet.specs.Claims.{questions, Shape, Grows, Written, Sheets}
+use Rattle.sheet.specs.Claims.{questions, Shape, Grows, Sheets}
 use Rattle.sheet.proofs.Places.{cell-empty, cell-nobody, cell-nothing, cell-there}
 use Rattle.sheet.proofs.Faults.{first-no, all-yes}
 use Rattle.sheet.proofs.Long.{field-front, long-refused, long-alike}
-use Rattle.sheet.proofs.Writing.{bytes-written, written-same}
+use Rattle.sheet.proofs.Writing.{Written, bytes-written, written-same}
 use Rattle.sheet.proofs.Theorems.{refusal-range, place-zero, place-inside, place-least, accepted-shape, accepted-monotone, accepted-written}
 
 module _ (b : List ℕ) (w : Sheet) (shape : Shape w) (written : Written b w) where
@@ -106,8 +106,6 @@ sheets-all =
       place-least = place-least;
       accepted-shape = accepted-shape;
       accepted-monotone = accepted-monotone;
-      accepted-written = accepted-written;
-      written-accepted = λ b w shape grows written. written-accepted b w shape written grows;
       accepted-bytes = λ b accepted. written-same (sheetOf b) b (bytesOf (sheetOf b)) (accepted-written b accepted) (bytes-written (sheetOf b));
       bytes-accepted = λ w shape grows. written-accepted (bytesOf w) w shape (bytes-written w) grows;
       prefix-refused = prefix-refused;

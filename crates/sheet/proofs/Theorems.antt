@@ -20,7 +20,8 @@ use Rattle.numbers.specs.Numbers.{bit}
 use Rattle.fields.specs.Fields.{numberAt}
 use Rattle.sheet.specs.Questions.{fault, ask, askEach, headGood, between, rightLength, wrong, firstWrong, linesFault, sheetFault}
 use Rattle.sheet.specs.Claims.{GoodField, Question, Malformed, TooLarge, Falls, WrongAt, LeastPlace}
-use Rattle.sheet.specs.Claims.{Shape, Grows, Written}
+use Rattle.sheet.specs.Claims.{Shape, Grows}
+use Rattle.sheet.proofs.Writing.{Written}
 use Rattle.fields.proofs.Canonical.{field-canonical}
 use Rattle.numbers.proofs.Subsets.{subset-monotone}
 use Rattle.sheet.proofs.Lines.{first-place, malformed-means, large-means, falls-means}

@@ -1,5 +1,5 @@
 -- The questions as propositions, in document 01's words, to read a sheet's fault by (`Question`); what is wrong at an offset with 6, 7 and 8 (`WrongAt`,
--- `LeastPlace`); what is known of an accepted sheet (`Shape`, `Grows`, `Written`); and all that is claimed of sheets (`Sheets`).
+-- `LeastPlace`); what is known of an accepted sheet (`Shape`, `Grows`); and all that is claimed of sheets (`Sheets`).
 use mathlib.Core.Path.{_≡_}
 use mathlib.Core.Logic.{_≢_, _⊎_, _↔_}
 use mathlib.Core.Bool.{true}
@@ -85,15 +85,6 @@ pub record Shape (w : Sheet) : Type 0 where
 abbrev pub Grows : Sheet → Type 0
 Grows w = (i s j : ℕ) → i < w .buyers → s < 2 ^ w .lots → j < w .lots → bit j s ≡ true → worth w i (s - 2 ^ j) ≤ worth w i s
 
--- and its bytes: the first line, and each buyer's line, in the columns in which their numbers are written
-pub record Written (b : List ℕ) (w : Sheet) : Type 0 where
-  pub long : length b ≡ 13 + w .buyers * (6 * (2 ^ w .lots - 1) + 1)
-  pub buyers : take 6 b ≡ columns 6 (w .buyers)
-  pub lots : take 6 (drop 6 b) ≡ columns 6 (w .lots)
-  pub head-end : getD b 12 0 ≡ 10
-  pub worths : (i c : ℕ) → i < w .buyers → suc c < 2 ^ w .lots → take 6 (drop (startOf (w .lots) i c) b) ≡ columns 6 (worth w i (suc c))
-  pub ends : (i : ℕ) → i < w .buyers → getD b (startOf (w .lots) i (2 ^ w .lots - 1)) 0 ≡ 10
-
 -- of any bytes b
 pub record Sheets : Type 0 where
   -- a field has the number v exactly if its six bytes are those in which v is written
@@ -110,9 +101,6 @@ pub record Sheets : Type 0 where
   pub accepted-shape : (b : List ℕ) → sheetFault b .number ≡ 0 → Shape (sheetOf b)
   pub accepted-monotone : (b : List ℕ) → sheetFault b .number ≡ 0 → let w = sheetOf b in (i s t : ℕ) → i < w .buyers → s < 2 ^ w .lots → t < 2 ^ w .lots →
       ((j : ℕ) → j < w .lots → bit j s ≡ true → bit j t ≡ true) → worth w i s ≤ worth w i t
-  pub accepted-written : (b : List ℕ) → sheetFault b .number ≡ 0 → Written b (sheetOf b)
-  pub written-accepted : (b : List ℕ) (w : Sheet) → Shape w → Grows w → Written b w → (sheetFault b .number ≡ 0) × (sheetOf b ≡ w)
-  -- so an accepted sheet has the bytes of its numbers, and the bytes of every such table are accepted and read as it is
   pub accepted-bytes : (b : List ℕ) → sheetFault b .number ≡ 0 → b ≡ bytesOf (sheetOf b)
   pub bytes-accepted : (w : Sheet) → Shape w → Grows w → (sheetFault (bytesOf w) .number ≡ 0) × (sheetOf (bytesOf w) ≡ w)
   -- a sheet with bytes missing at its end is refused; one of 560 bytes or more is, and those after them make no difference
