@@ -132,7 +132,8 @@ hokewhuni_sale hokewhuni_run_sale(const uint8_t *sheet, size_t sheet_length, uin
                                   size_t record_length);
 
 /* Asks questions 1 to 8, and answers owners and payments reckoned from the worths alone. They are
- * the same as those of hokewhuni_run_sale. */
+ * those of hokewhuni_run_sale wherever that settles the sheet; it may refuse one for its record (9)
+ * that is answered here. */
 hokewhuni_direct hokewhuni_direct_way(const uint8_t *sheet, size_t sheet_length);
 
 /* Runs the sale as hokewhuni_run_sale does, its record too, and writes what is printed of it to the
