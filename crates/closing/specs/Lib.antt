@@ -1,3 +1,4 @@
 -- The closing: owners, discounts, payments.
 pub mod Closings
 pub mod Charges
+

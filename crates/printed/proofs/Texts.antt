@@ -6,7 +6,7 @@ use mathlib.Core.List.{List, [], _∷_}
 use Prim.Native.Nat.{ℕ, _≤_}
 use native.Mathlib.Omega.{arith}
 use native.Mathlib.Decide.{decLe, ℕ-discrete}
-use lib.ListN.{length, take, drop, replicate, take-append-drop, length-replicate}
+use lib.ListN.{length, take, drop, replicate, take-append-drop}
 use lib.Seq.{take-all, length-take-le}
 use lib.Dec.{eqb}
 use borrow.Author.Tests.{eq-eqb, ne-eqb}
@@ -134,15 +134,13 @@ print-numbered b o o′ t t′ k says =
     )
 
 -- with 59,994 bytes of record no sale is refused by question 9
-text-numbered : (b : List ℕ) → (o′ : List ℕ) × PrintsSale b (replicate 59994 0) o′ (Unit {0}) (printedSale b)
-text-numbered b =
-    let o : List ℕ = replicate 59994 0 in
+text-numbered : (b o : List ℕ) → 59994 ≤ length o → (o′ : List ℕ) × PrintsSale b o o′ (Unit {0}) (printedSale b)
+text-numbered b o long =
     let r = saleAnswer b (length o) in
     let o′ = saleRecord b o in
     let sale : SaleSays b o o′ r = record { answer = refl; bytes = refl } in
     let told = demand-1 .sells b o o′ r sale in
-    let long : length o ≡ 59994 = length-replicate {A = ℕ} 59994 0 in
-    let is : printedSale b ≡ printed r = sym (any-record b (length o) (omega arith)) in (
+    let is : printedSale b ≡ printed r = sym (any-record b (length o) long) in (
       o′,
       record {
         answer = r;
@@ -155,7 +153,7 @@ text-numbered b =
           first-no = told .first-no;
           range = elim (told .range) [
             | inl h ↦ inl h
-            | inr h ↦ absurd (never-nine b (length o) (omega arith) (sym (sale-number b o o′ r sale) ∙ h .0))
+            | inr h ↦ absurd (never-nine b (length o) long (sym (sale-number b o o′ r sale) ∙ h .0))
           ];
           no-place = told .no-place;
           a-place = told .a-place;

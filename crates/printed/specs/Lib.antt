@@ -1,2 +1,3 @@
 -- The printed sale.
 pub mod Printed
+

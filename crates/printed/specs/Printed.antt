@@ -73,8 +73,8 @@ pub record PrintSays (b o o′ t t′ : List ℕ) (r : ℕ) : Type 0 where
 abbrev pub textOf : List ℕ → Text
 textOf b = record { bytes = over (printedSale b) (replicate 227 0); length = length (printedSale b) }
 
--- demand 1 of the entries that print: they print a sale's answer, with a sale's number and place; a refusal is one line, and leaves the record as it was. The
--- program's own record is never too short, so that its sale has no question 9.
+-- demand 1 of the entries that print: they print a sale's answer, with a sale's number and place; a refusal is one line, and leaves the record as it was. A
+-- record of 59,994 bytes, as `sale_text` has, is never too short: there is no question 9 then.
 pub record PrintsSale (b o o′ : List ℕ) (Own : Type 0) (text : List ℕ) : Type 0 where
   pub answer : Sale
   pub says : SaleSays b o o′ answer
@@ -86,7 +86,7 @@ pub record PrintsSale (b o o′ : List ℕ) (Own : Type 0) (text : List ℕ) : T
 pub record Prints : Type 0 where
   pub prints : (b o o′ t t′ : List ℕ) (r : ℕ) → PrintSays b o o′ t t′ r →
       (text : List ℕ) × PrintsSale b o o′ (roundLimit (sheetOf b) ≤ length o) text × Puts text t t′ r
-  pub texts : (b : List ℕ) → (o′ : List ℕ) × PrintsSale b (replicate 59994 0) o′ (Unit {0}) (printedSale b)
+  pub texts : (b o : List ℕ) → 59994 ≤ length o → (o′ : List ℕ) × PrintsSale b o o′ (Unit {0}) (printedSale b)
   -- every printed number has at most six digits
   pub prints-fit : (b o o′ : List ℕ) (r : Sale) → SaleSays b o o′ r → Printable r
   -- question 9's sum is at most 59,994, so that a record of that length is never refused

@@ -1,2 +1,3 @@
 -- What the code of a round and a sale answers.
 pub mod Rounds
+

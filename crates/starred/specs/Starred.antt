@@ -12,7 +12,7 @@ use Rattle.sheet.specs.Questions.{accepts, onward, sheetFault}
 use Rattle.sheet.specs.Answers.{sheetRead}
 use Rattle.theory.specs.Lists.{keep, over}
 use Rattle.totals.specs.Walks.{four}
-use Rattle.totals.specs.Words.{allocations, totalOf, greatestWithout}
+use Rattle.totals.specs.Words.{allocations, totalOf}
 use Rattle.sale.specs.declared.Sale.{Sale}
 use Rattle.sale.specs.Answers.{saleAnswer, saleRecord}
 use Rattle.direct.specs.declared.Direct.{Direct}
@@ -167,11 +167,11 @@ rows =
     (3 ∷ 1 ∷ []) (2 ∷ 0 ∷ 2 ∷ []) (2 ∷ 0 ∷ 0 ∷ []) 9 [] ∷
     []
 
--- the owner lists of greatest total, in order
-abbrev pub greatestLists : List ℕ → List (List ℕ)
-greatestLists b =
+-- the owner lists of a total, in order
+abbrev pub listsOf : List ℕ → ℕ → List (List ℕ)
+listsOf b total =
     let w = sheetOf b in
-    onward (accepts (sheetFault b)) (λ _. keep (λ a. eqb (totalOf w a) (greatestWithout w 0)) (allocations w)) []
+    onward (accepts (sheetFault b)) (λ _. keep (λ a. eqb (totalOf w a) total) (allocations w)) []
 
 -- what the definitions answer for a row, and what the row has; the record has other bytes before the sale
 abbrev pub Answers : Type 0
@@ -183,7 +183,7 @@ before r = replicate (r .room) 170
 abbrev pub told : Row → Answers
 told r =
     let b = r .sheet in
-    (sheetRead b, saleAnswer b (r .room), saleRecord b (before r), directAnswer b, greatestLists b)
+    (sheetRead b, saleAnswer b (r .room), saleRecord b (before r), directAnswer b, listsOf b (r .direct .total))
 
 abbrev pub meant : Row → Answers
 meant r = (r .read, r .sale, over (r .sets) (before r), r .direct, r .greatest)

@@ -85,7 +85,8 @@ module _ {A : Type 0} (M : Market A) where
       ((i : ℕ) → Bidder M i → member n i ≡ t i) ×
       ((k : ℕ) → Beneath t (member k) → n < k)
 
-  -- definition 11, a minimally undersupplied set: no proper subset of it is undersupplied
+  -- a minimally undersupplied set: no proper subset of it is undersupplied. Where there is universal overdemand, as in
+  -- every round of a sale, this is definition 11
   pub record Minimal (q : Quote) (es : List (Economy A)) (set : ℕ → Bool) : Type 0 where
     pub undersupply : undersupplied q es set ≡ true
     pub least : (part : ℕ → Bool) → Beneath part set → undersupplied q es part ≡ false
