@@ -1,4 +1,3 @@
 -- The closing: owners, discounts, payments.
 pub mod Closings
 pub mod Charges
-

@@ -1,3 +1,2 @@
 -- The printed sale.
 pub mod Printed
-

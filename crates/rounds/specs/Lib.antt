@@ -1,3 +1,2 @@
 -- What the code of a round and a sale answers.
 pub mod Rounds
-
