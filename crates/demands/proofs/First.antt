@@ -118,7 +118,8 @@ read-again : (b : List ℕ) → worthsRead b .number ≢ 0 → worthsRead b ≡ 
 unfolding worthsRead worthsBy refusal
 read-again b h = rw (ne-eqb (sheetFault b .number) 0 h)
 
-sheet-again : (b : List ℕ) → let r = sheetRead b in r .number ≢ 0 → r ≡ record { number = r .number; place = r .place; buyers = 0; lots = 0 }
+sheet-again : (b : List ℕ) → let r = sheetRead b in r .number ≢ 0 →
+    r ≡ record { number = r .number; place = r .place; buyers = 0; lots = 0 }
 unfolding sheetRead worthsRead worthsBy
 sheet-again b h = rw (ne-eqb (sheetFault b .number) 0 h)
 

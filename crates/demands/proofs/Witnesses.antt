@@ -16,7 +16,9 @@ highest : (k : ℕ) → getD (replicate 96 65535) k 0 ≤ 65535
 highest k =
     elim (decLt k 96) [
       | yes h ↦ rw (getD-replicate {A = ℕ} 96 k 65535 0 h) (omega arith)
-      | no h ↦ rw (List·getD-eq-default (replicate {A = ℕ} 96 65535) 0 {n = k} (omega (arith, length-replicate {A = ℕ} 96 65535))) (omega arith)
+      | no h ↦
+          let long = length-replicate {A = ℕ} 96 65535 in
+          rw (List·getD-eq-default (replicate {A = ℕ} 96 65535) 0 {n = k} (omega arith)) (omega arith)
     ]
 
 agree : (i s : ℕ) → Among 2 1 i → 1 ≤ s → s < 4 → getD zeros (16 * (i - 1) + s) 0 ≡ getD unread (16 * (i - 1) + s) 0

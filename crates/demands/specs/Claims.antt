@@ -34,7 +34,8 @@ pub record Demand-1 : Type 0 where
   -- reading, which has no question of its own: none can get a no
   pub reads : (b : List ℕ) → let r = sheetRead b in Numbered b 9 (Unit {0}) (r .number) (r .place)
   pub reads-worths : (b : List ℕ) → let r = worthsRead b in Numbered b 9 (Unit {0}) (r .number) (r .place)
-  pub reads-refused : (b : List ℕ) → let r = sheetRead b in r .number ≢ 0 → r ≡ record { number = r .number; place = r .place; buyers = 0; lots = 0 }
+  pub reads-refused : (b : List ℕ) → let r = sheetRead b in r .number ≢ 0 →
+      r ≡ record { number = r .number; place = r .place; buyers = 0; lots = 0 }
   pub reads-worths-refused : (b : List ℕ) → let r = worthsRead b in r .number ≢ 0 → r ≡ refusal (r .number) (r .place)
   -- a demand answer
   pub demands : (b : List ℕ) (i : ℕ) (ps : List ℕ) → let r = demandAnswer b i ps in Numbered b 10 (Among (sheetOf b .buyers) 1 i) (r .number) (r .place)

@@ -1,5 +1,5 @@
--- That theorems with a condition say something: sheets, prices and sets that meet each condition, and differ where it lets them. And that at prices brought from
--- outside the empty set can be undersupplied.
+-- That theorems with a condition say something: sheets, prices and sets that meet each condition, and differ where it
+-- lets them. And that at prices brought from outside the empty set can be undersupplied.
 use mathlib.Core.Path.{_≡_}
 use mathlib.Core.Logic.{_≢_}
 use mathlib.Core.Bool.{true}

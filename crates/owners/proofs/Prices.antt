@@ -52,8 +52,10 @@ raised-unread S all v set ps k h e =
     (λ q. rw (p, q) (omega arith)))
     (λ p. rw p (omega arith)))
 
-pub raised-long : (S : Seats) (all : ℕ) (v : Table) (set : ℕ → Bool) (ps : List ℕ) → length (raised S all v set ps) ≡ 16 * S .rows
-raised-long S all v set ps = tabulate-length (16 * S .rows) 0 (λ k. raisedAt S all v set ps k (k / 16) (k - 16 * (k / 16)))
+pub raised-long : (S : Seats) (all : ℕ) (v : Table) (set : ℕ → Bool) (ps : List ℕ) →
+    length (raised S all v set ps) ≡ 16 * S .rows
+raised-long S all v set ps =
+    tabulate-length (16 * S .rows) 0 (λ k. raisedAt S all v set ps k (k / 16) (k - 16 * (k / 16)))
 
 pub holds-fair : {A : Type 0} (M : Market A) (S : Seats) (all top : ℕ) (v : Table) (ps : List ℕ) (π : ℕ → ℕ) → Holds M S all top v ps π → Fair S M all v ps
 holds-fair M S all top v ps π holds i r s h = omega (arith, holds .prices i r s h)

@@ -163,7 +163,8 @@ prints-fit b o o′ r says = elim (ℕ-discrete (r .number) 0) [ yes z ↦ settl
 
 -- no sheet asks for more than 59,994 bytes of record
 pub limit-low : (b : List ℕ) → sheetFault b .number ≡ 0 → roundLimit (sheetOf b) ≤ 59994
-limit-low b z = limit-small (sheetOf b .buyers) (sheetOf b .lots) (shape b z .few-buyers) (sheetOf b .worths) (shape b z .small)
+limit-low b z =
+    limit-small (sheetOf b .buyers) (sheetOf b .lots) (shape b z .few-buyers) (sheetOf b .worths) (shape b z .small)
 
 -- with room for 59,994 rounds question 9 is answered yes
 module _ (b : List ℕ) (room : ℕ) (long : 59994 ≤ room) where

@@ -1,5 +1,6 @@
--- The text of a sheet: it is what is printed of its sale with any record that is long enough (`any-record`), it has 13 to 227 bytes (`shortest`, `longest`), and it
--- depends on the first 560 bytes alone (`cut`). All that is claimed of printing: `prints-all`. `text-told` and `text-within` are for the text as an answer. Assumes nothing.
+-- The text of a sheet: it is what is printed of its sale with any record that is long enough (`any-record`), it has 13
+-- to 227 bytes (`shortest`, `longest`), and it depends on the first 560 bytes alone (`cut`). All that is claimed of
+-- printing: `prints-all`. `text-told` and `text-within` are for the text as an answer. Assumes nothing.
 use mathlib.Core.Path.{_≡_, refl, sym, ap, ap₂, subst, _∙_}
 use mathlib.Core.Logic.{_≢_, inl, inr}
 use mathlib.Core.List.{List, [], _∷_}
@@ -27,7 +28,8 @@ use Rattle.sale.proofs.Instance.{shape}
 use Rattle.sale.proofs.Opening.{sale-number}
 use Rattle.demands.proofs.First.{demand-1}
 use Rattle.printed.specs.declared.Text.{Text}
-use Rattle.printed.specs.Printed.{printed, settledText, refusedText, printedSale, Puts, PrintSays, PrintsSale, textOf, Prints}
+use Rattle.printed.specs.Printed.{printed, settledText, refusedText, printedSale, Puts, PrintSays, PrintsSale}
+use Rattle.printed.specs.Printed.{textOf, Prints}
 use Rattle.printed.proofs.Fits.{limit-low, sale-asked, sale-first, prints-fit, never-nine}
 use Rattle.printed.proofs.Parts.{text-length}
 
@@ -111,7 +113,8 @@ text-within b r e =
     )
 
 -- demand 1
-refused-print : (b o o′ : List ℕ) (r : Sale) → SaleSays b o o′ r → r .number ≢ 0 → (printed r ≡ refusedText (r .number) (r .place)) × (o′ ≡ o)
+refused-print : (b o o′ : List ℕ) (r : Sale) → SaleSays b o o′ r → r .number ≢ 0 →
+    (printed r ≡ refusedText (r .number) (r .place)) × (o′ ≡ o)
 refused-print b o o′ r says n = (
   ap (λ x. pick x (settledText r) (refusedText (r .number) (r .place))) (ne-eqb (r .number) 0 n),
   demand-1 .sells-refused b o o′ r says n .1,

@@ -73,8 +73,9 @@ pub record PrintSays (b o o′ t t′ : List ℕ) (r : ℕ) : Type 0 where
 abbrev pub textOf : List ℕ → Text
 textOf b = record { bytes = over (printedSale b) (replicate 227 0); length = length (printedSale b) }
 
--- demand 1 of the entries that print: they print a sale's answer, with a sale's number and place; a refusal is one line, and leaves the record as it was. A
--- record of 59,994 bytes, as `sale_text` has, is never too short: there is no question 9 then.
+-- demand 1 of the entries that print: they print a sale's answer, with a sale's number and place; a refusal is one
+-- line, and leaves the record as it was. A record of 59,994 bytes, as `sale_text` has, is never too short: there is no
+-- question 9 then.
 pub record PrintsSale (b o o′ : List ℕ) (Own : Type 0) (text : List ℕ) : Type 0 where
   pub answer : Sale
   pub says : SaleSays b o o′ answer

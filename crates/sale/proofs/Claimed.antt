@@ -33,7 +33,8 @@ sales-hold b accepted =
         keen-means = demanding.keen-means b accepted ps prices;
         fits-means = supplying.fits-means b accepted ps prices;
         undersupplied-means = supplying.undersupplied-means b accepted ps prices;
-        all-keen = λ set all. undersupplied-keen (market w) (quote w ps) (theAuction w .economies) (member set) (member all);
+        all-keen = λ set all.
+            undersupplied-keen (market w) (quote w ps) (theAuction w .economies) (member set) (member all);
         settled-iff-uce = theorems.settled-iff-uce b accepted ps prices;
         lowest-least = theorems.lowest-least b accepted ps;
         lowest-minimal = theorems.lowest-minimal b accepted ps;

@@ -56,7 +56,8 @@ module _ (w : Sheet) where
   pub bundle-below : (a : List ℕ) → a ∈ allocations w → (i : ℕ) → market w .holds a i < 2 ^ w .lots
   bundle-below a k i = singles-below (w .lots) i a (allocations-all a .0 k .0)
 
-  pub bundle-bits : (a : List ℕ) → a ∈ allocations w → (i j : ℕ) → j < w .lots → (bit j (market w .holds a i) ≡ true) ↔ (getD a j 0 ≡ i)
+  pub bundle-bits : (a : List ℕ) → a ∈ allocations w → (i j : ℕ) → j < w .lots →
+      (bit j (market w .holds a i) ≡ true) ↔ (getD a j 0 ≡ i)
   bundle-bits a k i j h =
       let is = bundle-bit i a j (omega (arith, allocations-all a .0 k .0)) in
       (λ e. eqb-true (getD a j 0) i (sym is ∙ e), λ e. is ∙ eq-eqb (getD a j 0) i e)

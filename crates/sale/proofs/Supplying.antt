@@ -1,5 +1,5 @@
--- What a fitting allocation and an undersupplied set are, at any ninety-six prices of an accepted sheet (`fits-means`, `undersupplied-means`); an economy by its
--- number (`economy-number`, `number-economy`). Assumes nothing.
+-- What a fitting allocation and an undersupplied set are, at any ninety-six prices of an accepted sheet (`fits-means`,
+-- `undersupplied-means`); an economy by its number (`economy-number`, `number-economy`). Assumes nothing.
 use mathlib.Core.Path.{_≡_, refl, sym, subst, _∙_}
 use mathlib.Core.Logic.{_≢_, _⊎_, _↔_}
 use mathlib.Core.Bool.{true, not, _&&_}
@@ -19,7 +19,8 @@ use Rattle.owners.specs.Owners.{lacks, member}
 use Rattle.owners.proofs.Economies.{economies-all, whole-in, lacking-in}
 use Rattle.sheet.specs.Sheets.{Sheet, sheetOf}
 use Rattle.sheet.specs.Questions.{sheetFault}
-use Rattle.sale.specs.Words.{priceAt, allocations, market, theAuction, economy, quote, isKeen, fits, undersupplied}
+use Rattle.sale.specs.Words.{priceAt, allocations, market, theAuction, economy, quote, isKeen, fits}
+use Rattle.sale.specs.Words.{undersupplied}
 use Rattle.sale.specs.Claims.{Prices, Demanded}
 use Rattle.sale.proofs.Lists.{bundle-below, economy-fewer}
 use Rattle.sale.proofs.Demanding.{wants-means}
@@ -60,7 +61,8 @@ module _ (b : List ℕ) (accepted : sheetFault b .number ≡ 0) (ps : List ℕ) 
   -- a buyer's bundle in an allocation of an economy
   held-means : (e : ℕ) (a : List ℕ) → a ∈ economy w e → (i : ℕ) → Among (w .buyers) 1 i →
       Means (quote w ps .wants i (market w .holds a i)) (Demanded w ps i (market w .holds a i))
-  held-means e a k i r = wants-means b accepted ps prices i (market w .holds a i) r (bundle-below w a (economy-fewer w e a k) i)
+  held-means e a k i r =
+      wants-means b accepted ps prices i (market w .holds a i) r (bundle-below w a (economy-fewer w e a k) i)
 
   pub fits-means : (e : ℕ) (a : List ℕ) → a ∈ economy w e → (fits w ps e a ≡ true) ↔
       (((c : List ℕ) → c ∈ economy w e → takings c ≤ takings a)
@@ -77,7 +79,8 @@ module _ (b : List ℕ) (accepted : sheetFault b .number ≡ 0) (ps : List ℕ) 
   Served set e a = (i : ℕ) → Among (w .buyers) 1 i → i ≢ e → member set i ≡ true → Demanded w ps i (market w .holds a i)
 
   supplied-means : (set e : ℕ) (y : Economy (List ℕ)) → Numbers w y e →
-      Means (supplied (market w) (quote w ps) (member set) y) ((a : List ℕ) × (a ∈ economy w e) × (fits w ps e a ≡ true) × Served set e a)
+      Means (supplied (market w) (quote w ps) (member set) y)
+      ((a : List ℕ) × (a ∈ economy w e) × (fits w ps e a ≡ true) × Served set e a)
   supplied-means set e y (lists, present) =
       means-via (auction.supplied-means (market w) (quote w ps) (member set) y)
       (λ (a, k, (fit, suits)).

@@ -18,7 +18,8 @@ use Rattle.theory.specs.Universal.{Competitive, Universal, Answers, Bundled}
 use Rattle.theory.proofs.Sums.{sum-same}
 use Rattle.theory.proofs.Tests.{by-test, fails, and-means, not-means, eqb-means, leb-means, least-none}
 use Rattle.theory.proofs.Payments.{discount-exact}
-use Rattle.theory.proofs.Auction.{supplied-means, undersupplied-means, undersupplied-keen, lowest-least as least-of, lowest-minimal as minimal-of, settled-iff}
+use Rattle.theory.proofs.Auction.{supplied-means, undersupplied-means, undersupplied-keen, settled-iff}
+use Rattle.theory.proofs.Auction.{lowest-least as least-of, lowest-minimal as minimal-of}
 use Rattle.theory.proofs.Universal.{closing-competitive}
 use Rattle.owners.specs.Owners.{member}
 use Rattle.owners.specs.Prices.{Seats, plain, zeros, read}
@@ -32,7 +33,8 @@ use Rattle.sheet.specs.Sheets.{Sheet, sheetOf}
 use Rattle.sheet.specs.Questions.{sheetFault}
 use Rattle.numbers.proofs.Numbers.{pow-some}
 use Rattle.sale.specs.Words.{worthOf, priceAt, allocations, market, theAuction, economy, best, quote, revenue, fits, undersupplied, lowest}
-use Rattle.sale.specs.Rounds.{raised, roundLimit, startPrices, saleSets, pricesAfter, lastPrices, ownersBy, discountFor}
+use Rattle.sale.specs.Rounds.{raised, roundLimit, startPrices, saleSets, pricesAfter, lastPrices, ownersBy}
+use Rattle.sale.specs.Rounds.{discountFor}
 use Rattle.sale.specs.Claims.{Prices, Supports, UCE, setAt, Demand-2}
 use Rattle.sale.proofs.Instance.{shape, hall, worths}
 use Rattle.sale.proofs.Lists.{economy-fewer, bundle-below}
@@ -48,7 +50,8 @@ after-one step σ (x ∷ l) (suc k) h = after-one step (step x σ) l k (omega ar
 after-long : (w : Sheet) (l ps : List ℕ) → length ps ≡ 96 → length (after (raised w) ps l) ≡ 96
 unfolding raised
 after-long w [] ps e = e
-after-long w (x ∷ l) ps e = after-long w l (raised w x ps) (raised-long (plain (w .buyers)) (2 ^ w .lots) (worthOf w) (member x) ps)
+after-long w (x ∷ l) ps e =
+    after-long w l (raised w x ps) (raised-long (plain (w .buyers)) (2 ^ w .lots) (worthOf w) (member x) ps)
 
 prices-long : (w : Sheet) (k : ℕ) → length (pricesAfter w k) ≡ 96
 unfolding pricesAfter singles.startPrices
@@ -87,7 +90,10 @@ module _ (w : Sheet) (ps : List ℕ) where
   uce-to u y k = let (e, l, numbers) = economy-number w y k in let (a, c) = u e l in (a, supports-is y e numbers a .0 c)
 
   uce-from : Universal (market w) bundle (worthOf w) (priceAt w ps) (theAuction w .economies) → UCE w ps
-  uce-from u e l = let (y, k, numbers) = number-economy w e l in let (a, c) = u y k in (a, supports-is y e numbers a .1 c)
+  uce-from u e l =
+      let (y, k, numbers) = number-economy w e l in
+      let (a, c) = u y k in
+      (a, supports-is y e numbers a .1 c)
 
 module _ (b : List ℕ) (accepted : sheetFault b .number ≡ 0) where
   abbrev w : Sheet
@@ -105,7 +111,9 @@ module _ (b : List ℕ) (accepted : sheetFault b .number ≡ 0) where
   -- at any ninety-six prices: no set, the empty one included, is undersupplied exactly if they are a UCE
   pub settled-iff-uce : (ps : List ℕ) → Prices ps → (lowest w ps ≡ 0) ↔ UCE w ps
   settled-iff-uce ps prices =
-      let (to, from) = settled-is X S all (w .buyers) (allocations w) (hall b accepted) (worthOf w) (worths b accepted) ps (small-fair (market w) S all (worthOf w) ps prices) in
+      let fair = small-fair (market w) S all (worthOf w) ps prices in
+      let (to, from) =
+      settled-is X S all (w .buyers) (allocations w) (hall b accepted) (worthOf w) (worths b accepted) ps fair in
       (λ e. uce-from w ps (to e), λ u. from (uce-to w ps u))
 
   -- the lowest undersupplied set is the least
@@ -140,21 +148,26 @@ module _ (b : List ℕ) (accepted : sheetFault b .number ≡ 0) where
   settles = second .settles
 
   -- the sale's owners at the last prices
-  last-answers : Answers (market w) (λ s. s < all) (worthOf w) (λ i. best w (lastPrices w) i - 65535) (quote w (lastPrices w))
+  last-answers : Answers (market w) (λ s. s < all) (worthOf w) (λ i. best w (lastPrices w) i - 65535)
+      (quote w (lastPrices w))
   unfolding singles.salePrices lastPrices
   last-answers =
-      quote-answers (priced X S all (w .buyers) (allocations w) (hall b accepted) (worthOf w) (worths b accepted)) (lastPrices w)
+      quote-answers (priced X S all (w .buyers) (allocations w) (hall b accepted) (worthOf w) (worths b accepted))
+      (lastPrices w)
       (ends-fair X S all (w .buyers) (allocations w) (hall b accepted) (worthOf w) (worths b accepted) (roundLimit w))
 
   bundled : Bundled (market w) (λ s. s < all) (allocations w)
   bundled a k i r = bundle-below w a k i
 
   sold : (fits w (lastPrices w) 0 (ownersBy w (lastPrices w)) ≡ true)
-      × Competitive (market w) (λ s. s < all) (worthOf w) (priceAt w (lastPrices w)) (whole (allocations w)) (ownersBy w (lastPrices w))
+      × Competitive (market w) (λ s. s < all) (worthOf w) (priceAt w (lastPrices w)) (whole (allocations w))
+      (ownersBy w (lastPrices w))
   unfolding ownersBy
   sold =
-      closing-competitive (market w) (λ s. s < all) (worthOf w) (λ i. best w (lastPrices w) i - 65535) (quote w (lastPrices w)) last-answers (allocations w) bundled
-      (settled-iff (market w) (quote w (lastPrices w)) (X .economies) (X .member) (X .sets) (hall b accepted .ready .numbered) .0 settles
+      closing-competitive (market w) (λ s. s < all) (worthOf w) (λ i. best w (lastPrices w) i - 65535)
+      (quote w (lastPrices w)) last-answers (allocations w) bundled
+      (settled-iff (market w) (quote w (lastPrices w)) (X .economies) (X .member) (X .sets)
+      (hall b accepted .ready .numbered) .0 settles
       (whole (allocations w)) (whole-in (w .buyers) (allocations w))) []
 
   sold-supports : Supports w (lastPrices w) 0 (ownersBy w (lastPrices w))
@@ -169,7 +182,8 @@ module _ (b : List ℕ) (accepted : sheetFault b .number ≡ 0) where
         last-uce = uce-from w (lastPrices w) (second .universal);
         none-earlier = λ k l u. second .not-yet k l (uce-to w (pricesAfter w k) u);
         overdemand = λ k l all.
-            undersupplied-keen (market w) (quote w (pricesAfter w k)) (X .economies) (member (setAt w k)) (member all) (lowest-least (pricesAfter w k) (setAt w k) (second .each k l) .0);
+            undersupplied-keen (market w) (quote w (pricesAfter w k)) (X .economies) (member (setAt w k)) (member all)
+            (lowest-least (pricesAfter w k) (setAt w k) (second .each k l) .0);
         lowest-set = second .each;
         least-set = λ k l. lowest-least (pricesAfter w k) (setAt w k) (second .each k l);
         minimal-set = λ k l. second .minimal k l .0;
@@ -243,9 +257,12 @@ module _ (b : List ℕ) (accepted : sheetFault b .number ≡ 0) where
           | yes h ↦
               by-test (read S all j)
               (λ t.
-              let (there, rest) = and-means (leb-means (suc (j / 16)) (w .buyers)) (and-means (leb-means 1 s) (leb-means (suc s) all)) .0 t in
+              let means = and-means (leb-means 1 s) (leb-means (suc s) all) in
+              let (there, rest) = and-means (leb-means (suc (j / 16)) (w .buyers)) means .0 t in
               let at : 16 * (i - 1) + s ≡ j = omega arith in
-              let is : priceAt w ps i s ≡ getD ps j 0 = rw (ne-eqb s 0 (λ z. omega (arith, rest))) (ap (λ x. getD ps x 0) at) in
-              omega (arith, is, price-bound i s (omega arith) (rest .1), worth-small (w .worths) 9999 i s (shape b accepted .small)))
+              let is : priceAt w ps i s ≡ getD ps j 0 =
+              rw (ne-eqb s 0 (λ z. omega (arith, rest))) (ap (λ x. getD ps x 0) at) in
+              let low = worth-small (w .worths) 9999 i s (shape b accepted .small) in
+              omega (arith, is, price-bound i s (omega arith) (rest .1)))
               (λ t. rw (absent-zero j h t) (omega arith))
         ]

@@ -16,7 +16,8 @@ use Rattle.owners.specs.Prices.{plain, read}
 use Rattle.sheet.specs.Sheets.{Sheet, sheetOf}
 use Rattle.sheet.specs.Questions.{sheetFault}
 use Rattle.sale.specs.Words.{worthOf, priceAt, allocations, market, theAuction, economy, best, quote, demandSet, isKeen, revenue, fits, undersupplied, lowest}
-use Rattle.sale.specs.Rounds.{raised, roundLimit, startPrices, saleSets, pricesAfter, lastPrices, ownersBy, discountFor}
+use Rattle.sale.specs.Rounds.{raised, roundLimit, startPrices, saleSets, pricesAfter, lastPrices, ownersBy}
+use Rattle.sale.specs.Rounds.{discountFor}
 
 -- a price table that may come from outside
 abbrev pub Prices : List ℕ → Type 0
@@ -59,13 +60,16 @@ module _ (w : Sheet) where
     -- "With m = 1 the second kind has no buyer and one allocation, nothing sold"
     pub economy-alone : w .buyers ≡ 1 → (a : List ℕ) → (a ∈ economy w 1) ↔ (a ≡ replicate (w .lots) 0)
     -- a bundle's bits are the lots that its buyer owns, and it has no others
-    pub bundle-bits : (a : List ℕ) → a ∈ allocations w → (i j : ℕ) → j < w .lots → (bit j (market w .holds a i) ≡ true) ↔ (getD a j 0 ≡ i)
+    pub bundle-bits : (a : List ℕ) → a ∈ allocations w → (i j : ℕ) → j < w .lots →
+        (bit j (market w .holds a i) ≡ true) ↔ (getD a j 0 ≡ i)
     pub bundle-below : (a : List ℕ) → a ∈ allocations w → (i : ℕ) → market w .holds a i < 2 ^ w .lots
 
   -- at any ninety-six prices
   pub record AtPrices (ps : List ℕ) : Type 0 where
-    -- the demand set's bits are the bundles of greatest payoff, and it has no others; keen is who has a bundle of positive payoff
-    pub demand-means : (i s : ℕ) → Among (w .buyers) 1 i → s < 2 ^ w .lots → (bit s (demandSet w ps i) ≡ true) ↔ Demanded ps i s
+    -- the demand set's bits are the bundles of greatest payoff, and it has no others; keen is who has a bundle of
+    -- positive payoff
+    pub demand-means : (i s : ℕ) → Among (w .buyers) 1 i → s < 2 ^ w .lots →
+        (bit s (demandSet w ps i) ≡ true) ↔ Demanded ps i s
     pub demand-below : (i : ℕ) → demandSet w ps i < 2 ^ (2 ^ w .lots)
     pub demand-some : (i : ℕ) → Among (w .buyers) 1 i → (s : ℕ) × (s < 2 ^ w .lots) × (bit s (demandSet w ps i) ≡ true)
     pub keen-means : (i : ℕ) → Among (w .buyers) 1 i → (isKeen w ps i ≡ true) ↔ ((s : ℕ) × (s < 2 ^ w .lots) × (priceAt w ps i s < worthOf w i s))
@@ -76,18 +80,19 @@ module _ (w : Sheet) where
     pub fits-means : (e : ℕ) (a : List ℕ) → a ∈ economy w e → (fits w ps e a ≡ true) ↔
         (((c : List ℕ) → c ∈ economy w e → total (market w) (priceAt w ps) c ≤ total (market w) (priceAt w ps) a)
         × ((i : ℕ) → Among (w .buyers) 1 i → (market w .holds a i ≡ 0) ⊎ Demanded ps i (market w .holds a i)))
-    -- an undersupplied set has keen members alone, and in some economy no fitting allocation gives all that are present a demanded bundle
+    -- an undersupplied set has keen members alone, and in some economy no fitting allocation gives all that are present
+    -- a demanded bundle
     pub undersupplied-means : (set : ℕ) → (undersupplied w ps set ≡ true) ↔
         (((i : ℕ) → Among (w .buyers) 1 i → member set i ≡ true → isKeen w ps i ≡ true)
         × ((e : ℕ) × (e ≤ w .buyers) × ((a : List ℕ) → a ∈ economy w e → fits w ps e a ≡ true →
         ((i : ℕ) → Among (w .buyers) 1 i → i ≢ e → member set i ≡ true → Demanded ps i (market w .holds a i)) → ⊥)))
     -- if some set is undersupplied, then so is that of all keen buyers
-    pub all-keen : (set all : ℕ) → undersupplied w ps set ≡ true → ((i : ℕ) → Among (w .buyers) 1 i → member all i ≡ isKeen w ps i) →
-        undersupplied w ps all ≡ true
+    pub all-keen : (set all : ℕ) → undersupplied w ps set ≡ true →
+        ((i : ℕ) → Among (w .buyers) 1 i → member all i ≡ isKeen w ps i) → undersupplied w ps all ≡ true
     -- no set, the empty one included, is undersupplied exactly if the prices are a UCE
     pub settled-iff-uce : (lowest w ps ≡ 0) ↔ UCE ps
-    -- the lowest undersupplied set is the least, and none of its proper subsets is undersupplied (minimal, as definition 11 has it where there is universal
-    -- overdemand)
+    -- the lowest undersupplied set is the least, and none of its proper subsets is undersupplied (minimal, as definition
+    -- 11 has it where there is universal overdemand)
     pub lowest-least : (set : ℕ) → lowest w ps ≡ suc set →
         (undersupplied w ps set ≡ true) × ((other : ℕ) → other < set → undersupplied w ps other ≡ false)
     pub lowest-minimal : (set : ℕ) → lowest w ps ≡ suc set → Minimal (market w) (quote w ps) (theAuction w .economies) (member set)
@@ -117,8 +122,10 @@ module _ (w : Sheet) where
     -- the last prices are a UCE, and no earlier ones are
     pub last-uce : UCE (lastPrices w)
     pub none-earlier : (k : ℕ) → k < length (saleSets w) → UCE (pricesAfter w k) → ⊥
-    -- universal overdemand (definition 10) in every round: some allocation fits (`fits-always`), and the set of all keen buyers is undersupplied
-    pub overdemand : (k : ℕ) → k < length (saleSets w) → (all : ℕ) → ((i : ℕ) → Among (w .buyers) 1 i → member all i ≡ isKeen w (pricesAfter w k) i) →
+    -- universal overdemand (definition 10) in every round: some allocation fits (`fits-always`), and the set of all keen
+    -- buyers is undersupplied
+    pub overdemand : (k : ℕ) → k < length (saleSets w) → (all : ℕ) →
+        ((i : ℕ) → Among (w .buyers) 1 i → member all i ≡ isKeen w (pricesAfter w k) i) →
         undersupplied w (pricesAfter w k) all ≡ true
     -- each recorded set is the lowest undersupplied one at its prices, minimal by definition 11, one of the buyers there are, and has a member
     pub lowest-set : (k : ℕ) → k < length (saleSets w) → lowest w (pricesAfter w k) ≡ suc (setAt k)

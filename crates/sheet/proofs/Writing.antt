@@ -1,4 +1,5 @@
--- The bytes of a table are `Written` as the table asks, place by place (`bytes-written`), and no others are (`written-same`). Assumes nothing.
+-- The bytes of a table are `Written` as the table asks, place by place (`bytes-written`), and no others are
+-- (`written-same`). Assumes nothing.
 use mathlib.Core.Path.{_≡_, sym, ap, _∙_}
 use mathlib.Core.List.{List, [], _∷_, _++_, append-assoc, append-nil}
 use Prim.Native.Nat.{ℕ, suc, _+_, _-_, _*_, _/_, _%_, _^_, _≤_, _<_}
@@ -15,13 +16,15 @@ use Rattle.numbers.proofs.Numbers.{pow-some}
 use Rattle.sheet.specs.Sheets.{lineLength, offset, Sheet, worth, lineWorths, bytesOf}
 use Rattle.sheet.specs.Claims.{startOf}
 
--- a sheet's bytes place by place: the first line, and each buyer's line, in the columns in which their numbers are written
+-- a sheet's bytes place by place: the first line, and each buyer's line, in the columns in which their numbers are
+-- written
 pub record Written (b : List ℕ) (w : Sheet) : Type 0 where
   pub long : length b ≡ 13 + w .buyers * (6 * (2 ^ w .lots - 1) + 1)
   pub buyers : take 6 b ≡ columns 6 (w .buyers)
   pub lots : take 6 (drop 6 b) ≡ columns 6 (w .lots)
   pub head-end : getD b 12 0 ≡ 10
-  pub worths : (i c : ℕ) → i < w .buyers → suc c < 2 ^ w .lots → take 6 (drop (startOf (w .lots) i c) b) ≡ columns 6 (worth w i (suc c))
+  pub worths : (i c : ℕ) → i < w .buyers → suc c < 2 ^ w .lots →
+      take 6 (drop (startOf (w .lots) i c) b) ≡ columns 6 (worth w i (suc c))
   pub ends : (i : ℕ) → i < w .buyers → getD b (startOf (w .lots) i (2 ^ w .lots - 1)) 0 ≡ 10
 
 module _ (w : Sheet) where

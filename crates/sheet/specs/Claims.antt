@@ -67,7 +67,8 @@ pub record LeastPlace (w : Sheet) (T : ℕ → ℕ → Type 0) (p : ℕ) : Type 
 -- the place of a refusal with 6, 7 or 8
 abbrev pub Placed : List ℕ → ℕ → ℕ → Type 0
 Placed b number p = let w = sheetOf b in
-    (number ≡ 6 → LeastPlace w (λ i c. Malformed w i c b) p) × (number ≡ 7 → LeastPlace w (TooLarge w) p) × (number ≡ 8 → LeastPlace w (Falls w) p)
+    (number ≡ 6 → LeastPlace w (λ i c. Malformed w i c b) p) × (number ≡ 7 → LeastPlace w (TooLarge w) p)
+    × (number ≡ 8 → LeastPlace w (Falls w) p)
 
 -- an accepted sheet's shape: "m from 1 to 6 and n from 1 to 4. A worth is 0 to 9,999; the empty bundle is worth 0"; absent buyers and bundles have worth 0
 pub record Shape (w : Sheet) : Type 0 where

@@ -14,5 +14,6 @@ use Rattle.starred.specs.Starred.{Starred}
 pub starred : Starred
 unfolding
     worthsIn sheetFault linesFault firstWrong seats singles.startPrices singles.saleSets singles.salePrices raised saleSets lastPrices ownersBy discountFor paymentFor
-    worthsBy worthsRead sheetRead refusedSale settledSale saleAnswer saleRecord directOwners directPayment refusedDirect reckoned directAnswer
+    worthsBy worthsRead sheetRead refusedSale settledSale saleAnswer saleRecord directOwners directPayment refusedDirect
+    reckoned directAnswer
 starred = refl

@@ -1,5 +1,6 @@
--- The starred sales of document 01 as one table, with rows that catch what those miss. A row has a sheet, the record's length, the answers of reading, of a sale
--- and of the direct way, and all owner lists of greatest total. Sheets are given by their numbers: `sheetBy` lays out the bytes.
+-- The starred sales of document 01 as one table, with rows that catch what those miss. A row has a sheet, the record's
+-- length, the answers of reading, of a sale and of the direct way, and all owner lists of greatest total. Sheets are
+-- given by their numbers: `sheetBy` lays out the bytes.
 use mathlib.Core.Path.{_≡_}
 use mathlib.Core.List.{List, [], _∷_, _++_, map}
 use Prim.Native.Nat.{ℕ, _-_}
@@ -39,9 +40,10 @@ pub record Row : Type 0 where
   pub direct : Direct
   pub greatest : List (List ℕ)
 
--- worths, the record's length; the sets of the rounds, the last prices; owners, discounts, payments and the greatest total; and the lists of that total that come
--- after the owners, in order
-abbrev pub sold : ℕ → ℕ → List (List ℕ) → ℕ → List ℕ → List (List ℕ) → List ℕ → List ℕ → List ℕ → ℕ → List (List ℕ) → Row
+-- worths, the record's length; the sets of the rounds, the last prices; owners, discounts, payments and the greatest
+-- total; and the lists of that total that come after the owners, in order
+abbrev pub sold : ℕ → ℕ → List (List ℕ) → ℕ → List ℕ → List (List ℕ) → List ℕ → List ℕ → List ℕ → ℕ →
+    List (List ℕ) → Row
 sold m n worths room sets prices owners discounts payments total ties =
     record {
       sheet = sheetBy m n worths;

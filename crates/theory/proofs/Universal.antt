@@ -9,7 +9,8 @@ use Prim.Native.Nat.{ℕ}
 use native.Mathlib.Omega.{arith}
 use Rattle.theory.specs.Lists.{_∈_}
 use Rattle.theory.specs.Markets.{Market, Table, total, Equilibrium, only}
-use Rattle.theory.specs.Auction.{Economy, Quote, whole, fits, serves, closes, supplied, lowest, closing, Numbered, Truthful, Absent}
+use Rattle.theory.specs.Auction.{Economy, Quote, whole, fits, serves, closes, supplied, lowest, closing, Numbered}
+use Rattle.theory.specs.Auction.{Truthful, Absent}
 use Rattle.theory.specs.Universal.{Competitive, Universal, Answers, Bundled}
 use Rattle.theory.proofs.Tests.{Means, means-via, itself, and-means, some-means, by-test, fails}
 use Rattle.theory.proofs.Lists.{most-upper, most-is, first-in, first-passes}
