@@ -4,6 +4,8 @@
  *
  *     cc -std=c11 -Iinclude examples/office.c target/staticlib/libhokewhuni.a -o office
  *     ./office examples/example.sheet
+ *
+ * In an installed folder the library is lib/libhokewhuni.a.
  */
 #include <stdio.h>
 #include <stdlib.h>

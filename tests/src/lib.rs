@@ -1,11 +1,9 @@
-//! The proved library and an independent Rust reckoning of the same documents, side by side.
+//! The proved library and an independent Rust reckoning by the same rules, side by side.
 
-#![deny(unsafe_code)]
+#![forbid(unsafe_code)]
 
 pub mod generator;
 pub mod halves;
-#[allow(unsafe_code)]
-pub mod library;
 pub mod names;
 pub mod process;
 pub mod program;

@@ -5,7 +5,7 @@ use std::process::{Child, ChildStdin, Command, ExitStatus, Stdio};
 use std::thread::{self, sleep};
 use std::time::{Duration, Instant};
 
-/// A process that takes longer is killed.
+/// A process that takes longer is killed, unless another limit is given.
 const LIMIT: Duration = Duration::from_secs(10);
 
 /// Between two looks whether a process has ended.
@@ -26,6 +26,14 @@ pub struct Ended {
     pub errors: Vec<u8>,
 }
 
+impl Ended {
+    /// Whether it ended by itself, with this status.
+    pub fn with(&self, code: i32) -> bool {
+        self.status
+            .is_some_and(|status| status.code() == Some(code))
+    }
+}
+
 /// Runs a command with the input in a pipe.
 pub fn run(command: &mut Command, input: &[u8]) -> io::Result<Ended> {
     run_in_pieces(command, &[input])
@@ -35,12 +43,17 @@ pub fn run(command: &mut Command, input: &[u8]) -> io::Result<Ended> {
 pub fn run_in_pieces(command: &mut Command, pieces: &[&[u8]]) -> io::Result<Ended> {
     let mut child = start(command, Stdio::piped(), Stdio::piped())?;
     feed(child.stdin.take(), pieces)?;
-    end(child)
+    end(child, LIMIT)
 }
 
 /// As `run`, where the input comes from elsewhere.
 pub fn run_from(command: &mut Command, input: impl Into<Stdio>) -> io::Result<Ended> {
-    end(start(command, input.into(), Stdio::piped())?)
+    end(start(command, input.into(), Stdio::piped())?, LIMIT)
+}
+
+/// As `run` with no input, for what may take longer.
+pub fn run_within(command: &mut Command, limit: Duration) -> io::Result<Ended> {
+    end(start(command, Stdio::null(), Stdio::piped())?, limit)
 }
 
 /// As `run`, where the output goes elsewhere.
@@ -51,7 +64,7 @@ pub fn run_into(
 ) -> io::Result<Ended> {
     let mut child = start(command, Stdio::piped(), output.into())?;
     feed(child.stdin.take(), &[input])?;
-    end(child)
+    end(child, LIMIT)
 }
 
 /// As `run`, where nobody reads the output any more when the input comes.
@@ -59,7 +72,7 @@ pub fn run_unread(command: &mut Command, input: &[u8]) -> io::Result<Ended> {
     let mut child = start(command, Stdio::piped(), Stdio::piped())?;
     drop(child.stdout.take());
     feed(child.stdin.take(), &[input])?;
-    end(child)
+    end(child, LIMIT)
 }
 
 fn start(command: &mut Command, input: Stdio, output: Stdio) -> io::Result<Child> {
@@ -85,10 +98,10 @@ fn feed(pipe: Option<ChildStdin>, pieces: &[&[u8]]) -> io::Result<()> {
 }
 
 /// Waits for the end, and meanwhile reads what is written.
-fn end(mut child: Child) -> io::Result<Ended> {
+fn end(mut child: Child, limit: Duration) -> io::Result<Ended> {
     let (output, errors) = (child.stdout.take(), child.stderr.take());
     thread::scope(|scope| {
-        let waiting = scope.spawn(|| wait(&mut child));
+        let waiting = scope.spawn(|| wait(&mut child, limit));
         let (output, errors) = (written(output), written(errors));
         let status = waiting.join().expect("waiting does not panic")?;
         Ok(Ended {
@@ -99,9 +112,9 @@ fn end(mut child: Child) -> io::Result<Ended> {
     })
 }
 
-fn wait(child: &mut Child) -> io::Result<Option<ExitStatus>> {
+fn wait(child: &mut Child, limit: Duration) -> io::Result<Option<ExitStatus>> {
     let start = Instant::now();
-    while start.elapsed() < LIMIT {
+    while start.elapsed() < limit {
         if let Some(status) = child.try_wait()? {
             return Ok(Some(status));
         }

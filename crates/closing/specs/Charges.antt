@@ -13,7 +13,7 @@ use Rattle.totals.specs.Walks.{four}
 use Rattle.totals.specs.Seats.{seats}
 use Rattle.closing.specs.Closings.{closingOwners}
 
--- "Buyer i's discount is the revenue of all buyers less the revenue without i"
+-- rule 5.2: buyer i's discount
 abbrev pub discountOf : ℕ → ℕ → List ℕ → ℕ → ℕ
 discountOf m n ps i =
     discount (market m single) (price (plain 6) ps) (allocations (zeroFirst m) n) (keep (lacks i) (allocations (zeroFirst m) n))
@@ -22,7 +22,7 @@ discountOf m n ps i =
 abbrev pub lessDiscount : List ℕ → List ℕ → ℕ → ℕ → ℕ
 lessDiscount ps a d i = price (plain 6) ps i (bundleFrom single 0 i a) - d
 
--- "The payment is the price of i's bundle less the discount"
+-- rule 5.3: what buyer i pays
 abbrev pub paymentOf : ℕ → ℕ → List ℕ → List ℕ → ℕ → ℕ
 paymentOf m n ws ps i =
     payment (auction m n (zeroFirst m) single (2 ^ n - 1)) (plain m) (2 ^ n) (allocations (zeroFirst m) n) [] (worth ws) ps i

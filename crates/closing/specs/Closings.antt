@@ -10,11 +10,11 @@ use Rattle.owners.specs.Sales.{owners}
 use Rattle.owners.specs.Singles.{worth}
 use Rattle.demand.specs.Demands.{quoted}
 
--- an owner list fits among all buyers and gives every keen buyer a demanded bundle
+-- an owner list closes the sale: it passes the test of rule 5.1
 abbrev pub closesSale : ℕ → ℕ → List ℕ → List ℕ → List ℕ → Bool
 closesSale m n ws ps a = closes (market m single) (quoted n ws ps) (quoted n ws ps .keen) (allocations (zeroFirst m) n) a
 
--- "the first list that fits among all buyers and gives every keen buyer a demanded bundle"; where there is none, no owners
+-- rule 5.1: the first list that closes the sale; where there is none, no owners
 abbrev pub closingOwners : ℕ → ℕ → List ℕ → List ℕ → List ℕ
 closingOwners m n ws ps =
     owners (auction m n (zeroFirst m) single (2 ^ n - 1)) (plain m) (2 ^ n) (allocations (zeroFirst m) n) [] (worth ws) ps

@@ -46,8 +46,8 @@ fn all_served(
     true
 }
 
-// Whether an owner list fits and gives every keen buyer a demanded bundle. A buyer that is not keen demands the empty bundle, so that is: it reaches
-// the revenue `top`, and every buyer demands what it owns.
+// Whether an owner list closes the sale (rule 5.1). A buyer that is not keen demands the empty bundle, so that is: it
+// reaches the revenue `top`, and every buyer demands what it owns.
 fn closes(
     worths: &[u16; 96],
     prices: &[u16; 96],
@@ -97,7 +97,7 @@ fn first_closing(
     }
 }
 
-// "Owners: the first list that fits among all buyers and gives every keen buyer a demanded bundle"; nobody where there is none.
+// The owners at the closing (rule 5.1); nobody where no list closes the sale.
 pub fn first_list(worths: &[u16; 96], prices: &[u16; 96], buyers: usize, lots: usize) -> [u8; 4]
     requires { ⌜ (buyers ≤ 6) × (lots ≤ 4) ⌝ }
     ensures { λ r. ⌜ r ≡ four (closingOwners buyers lots (now (worths .entry)) (now (prices .entry))) ⌝ }
@@ -110,7 +110,7 @@ pub fn first_list(worths: &[u16; 96], prices: &[u16; 96], buyers: usize, lots: u
     [0; 4]
 }
 
-// "Buyer i's discount is the revenue of all buyers less the revenue without i"; place k is buyer k + 1's.
+// A buyer's discount (rule 5.2), with `all` the revenue of all; place k is buyer k + 1's.
 fn discount_at(prices: &[u16; 96], buyers: usize, lots: usize, all: u32, k: usize) -> u32
     requires { ⌜ (buyers ≤ 6) × (lots ≤ 4) × (all ≡ greatestAt buyers lots (now prices) 0) ⌝ }
     ensures { λ r. ⌜ r ≡ seat buyers (discountOf buyers lots (now (prices .entry))) k ⌝ }
@@ -135,7 +135,7 @@ pub fn discounts(prices: &[u16; 96], buyers: usize, lots: usize) -> [u32; 6]
     t
 }
 
-// "The payment is the price of i's bundle less the discount."
+// What a buyer pays (rule 5.3); place k is buyer k + 1's.
 fn payment_at(
     prices: &[u16; 96],
     buyers: usize,

@@ -11,6 +11,6 @@ use Rattle.owners.specs.Singles.{worth}
 abbrev pub quoted : ℕ → List ℕ → List ℕ → Quote
 quoted n ws ps = quote (plain 6) (2 ^ n) (worth ws) ps
 
--- "the sum of 2^S over its bundles S"
+-- rule 4.2: the demand set as one number
 abbrev pub demandSet : ℕ → Quote → ℕ → ℕ
 demandSet n q i = sum (2 ^ n) 0 (λ s. when (q .wants i s) (2 ^ s))

@@ -9,7 +9,7 @@ ghost use Rattle.demand.specs.Demands.{quoted, demandSet};
 use numbers::power;
 use numbers::wide;
 
-// "The empty bundle always costs 0", whatever stands at its place.
+// A price, 0 for the empty bundle whatever stands at its place (rule 1.5).
 pub fn price_of(prices: &[u16; 96], i: usize, s: usize) -> u32
     requires { ⌜ (1 ≤ i) × (i ≤ 6) × (s < 16) ⌝ }
     ensures { λ r. ⌜ Is (price (plain 6) (now (prices .entry)) i s) r 65535 ⌝ }
@@ -28,7 +28,7 @@ pub fn worth_of(worths: &[u16; 96], i: usize, s: usize) -> u32
     price_of(worths, i, s)
 }
 
-// "A buyer's payoff from a bundle is worth less price."
+// A buyer's payoff from a bundle, 65,535 higher (rule 4.1).
 pub fn payoff_of(worths: &[u16; 96], prices: &[u16; 96], i: usize, s: usize) -> u32
     requires { ⌜ (1 ≤ i) × (i ≤ 6) × (s < 16) ⌝ }
     ensures { λ r. ⌜ Is (payoff (plain 6) (worth (now (worths .entry))) (now (prices .entry)) i s) r 131070 ⌝ }
@@ -63,7 +63,7 @@ pub fn wants(worths: &[u16; 96], prices: &[u16; 96], n: usize, i: usize, s: usiz
     payoff_of(worths, prices, i, s) == top
 }
 
-// "A buyer is keen if that greatest payoff is above 0."
+// Whether a buyer is keen (rule 4.3).
 pub fn is_keen(worths: &[u16; 96], prices: &[u16; 96], n: usize, i: usize) -> bool
     requires { ⌜ (n ≤ 4) × (1 ≤ i) × (i ≤ 6) ⌝ }
     ensures { λ r. ⌜ r ≡ quoted n (now (worths .entry)) (now (prices .entry)) .keen i ⌝ }
@@ -71,7 +71,7 @@ pub fn is_keen(worths: &[u16; 96], prices: &[u16; 96], n: usize, i: usize) -> bo
     65535 < best_of(worths, prices, n, i)
 }
 
-// The demand set, "answered as the sum of 2^S over its bundles S".
+// The demand set as one number (rule 4.2).
 pub fn demand_set(worths: &[u16; 96], prices: &[u16; 96], n: usize, i: usize) -> u16
     requires { ⌜ (n ≤ 4) × (1 ≤ i) × (i ≤ 6) ⌝ }
     ensures { λ r. ⌜ r ≡ demandSet n (quoted n (now (worths .entry)) (now (prices .entry))) i ⌝ }

@@ -20,7 +20,7 @@ use Rattle.sale.specs.Answers.{refusedDemand, refusedSale, demandAnswer, SaleSa
 use Rattle.direct.specs.declared.Direct.{Direct}
 use Rattle.direct.specs.Answers.{refusedDirect, directAnswer}
 
--- Demand 1. "An entry accepts a sheet if every question that the entry asks gets a yes": what number and place it can answer. `Own` is what the question asks
+-- Demand 1 (rules 3.11 to 3.15 and 5.12): what number and place an entry can answer. `Own` is what the question asks
 -- that the entry alone puts, after 1 to 8, and `own` the number of its refusal.
 pub record Numbered (b : List ℕ) (own : ℕ) (Own : Type 0) (number place : ℕ) : Type 0 where
   pub accepts : (number ≡ 0) ↔ (((k : ℕ) → Question b k) × Own)
@@ -60,7 +60,7 @@ pub record Recorded (w : Sheet) (o o′ : List ℕ) (r : Sale) : Type 0 where
 abbrev pub Demand-2 : Type 0
 Demand-2 = (b o o′ : List ℕ) (r : Sale) → SaleSays b o o′ r → r .number ≡ 0 → Recorded (sheetOf b) o o′ r
 
--- Demand 3. "An allocation is an owner list for the sheet's lots in which each owner is 0 or one of its buyers"
+-- Demand 3 (rules 5.13 to 5.16). An allocation of a sheet (rule 5.6)
 abbrev pub Allocation : Sheet → List ℕ → Type 0
 Allocation w a = (length a ≡ w .lots) × ((o : ℕ) → o ∈ a → o ≤ w .buyers)
 
@@ -74,7 +74,7 @@ bundleIn i owners = bundleFrom single 0 i owners
 abbrev pub numberIn : ℕ → List ℕ → ℕ
 numberIn i l = getD l (i - 1) 0
 
--- t is "the greatest total without i": reached, and not passed
+-- t is the greatest total without i (rule 5.8): reached, and not passed
 pub record GreatestWithout (w : Sheet) (i t : ℕ) : Type 0 where
   pub reached : (a : List ℕ) × Allocation w a × GivesNothing i a × (totalOf w a ≡ t)
   pub not-passed : (a : List ℕ) → Allocation w a → GivesNothing i a → totalOf w a ≤ t
@@ -87,19 +87,19 @@ pub record Reckoned (w : Sheet) (d : Direct) : Type 0 where
   pub most : (a : List ℕ) → Allocation w a → totalOf w a ≤ d .total
   -- the tie rule
   pub ties : (a : List ℕ) → Allocation w a → totalOf w a ≡ d .total → (a ≡ take (w .lots) (d .owners)) ⊎ ComesBefore _<_ (take (w .lots) (d .owners)) a
-  -- "Buyer i pays the greatest total without i, less T, plus i's own worth in the list", as a sum
+  -- rule 5.10, as a sum
   pub payments : (i : ℕ) → Among (w .buyers) 1 i →
       (t : ℕ) × GreatestWithout w i t × (numberIn i (d .payments) + d .total ≡ t + worthOf w i (bundleIn i (d .owners)))
   pub absent : (i : ℕ) → w .buyers < i → numberIn i (d .payments) ≡ 0
   pub bounded : (i : ℕ) → Among (w .buyers) 1 i → (numberIn i (d .payments) ≤ worthOf w i (bundleIn i (d .owners))) × (numberIn i (d .payments) ≤ 9999)
 
--- sheets "that differ at most in the worths of one buyer"
+-- sheets alike in all but buyer i's worths (rule 5.15)
 pub record AlikeBut (i : ℕ) (w v : Sheet) : Type 0 where
   pub buyers : w .buyers ≡ v .buyers
   pub lots : w .lots ≡ v .lots
   pub others : (k s : ℕ) → Among (w .buyers) 1 k → k ≢ i → s < 2 ^ w .lots → worthOf w k s ≡ worthOf v k s
 
--- "Worth less payment, which may be negative, is from the first answer at least what it is from the second": by the worths of w, as sums
+-- rule 5.15: i has no less from the first answer than from the second, by the worths of w; as sums
 abbrev pub NoGain : Sheet → ℕ → List ℕ → List ℕ → List ℕ → List ℕ → Type 0
 NoGain w i owners payments owners′ payments′ =
     worthOf w i (bundleIn i owners′) + numberIn i payments ≤ worthOf w i (bundleIn i owners) + numberIn i payments′

@@ -14,7 +14,7 @@ use Rattle.sale.specs.Words.{worthOf, market, undersupplied}
 use Rattle.sale.specs.Claims.{Prices, Agree}
 use Rattle.demands.specs.Claims.{AlikeBut}
 
--- document 01's example, and one in which buyer 1 says 1, 1 and 2
+-- the example of rule 6.5, and one in which buyer 1 says 1, 1 and 2
 abbrev pub example : Sheet
 example = sheetOf (linesOf ((2 ∷ 2 ∷ []) ∷ (2 ∷ 0 ∷ 2 ∷ []) ∷ (0 ∷ 1 ∷ 3 ∷ []) ∷ []))
 

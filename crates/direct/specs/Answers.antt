@@ -11,11 +11,11 @@ use Rattle.totals.specs.Seats.{seats}
 use Rattle.direct.specs.declared.Direct.{Direct}
 use Rattle.vickrey.specs.Reckoning.{directOwners, directPayment}
 
--- "A refusal returns its number and place, every other number 0"
+-- rule 3.14: number and place, and zeros
 unfoldable pub refusedDirect : Fault → Direct
 refusedDirect f = record { number = f .number; place = f .place; total = 0; owners = replicate 4 0; payments = replicate 6 0 }
 
--- "It answers T, the list and the payments, 0 for absent buyers."
+-- rule 5.11: the greatest total, its first list, the payments
 unfoldable pub reckoned : Sheet → Direct
 reckoned w =
     record {

@@ -1,5 +1,6 @@
--- Fields of a lot sheet: a number right-justified in six columns. Offers the classes of bytes, the field at a column (`fieldAt`), what reading one
--- field answers (`fieldRead`), and the columns in which a number is written (`columns`).
+-- Fields of a lot sheet (rules 2.2 to 2.5): a number at the right of six columns. Offers the classes of bytes, the
+-- field at a column (`fieldAt`), what reading one field answers (`fieldRead`), and the columns in which a number is
+-- written (`columns`).
 use mathlib.Core.Bool.{Bool, true, false, _&&_}
 use mathlib.Core.List.{List, [], _∷_, _++_}
 use Prim.Native.Nat.{ℕ, zero, suc, _+_, _-_, _*_, _/_, _%_, _^_}
@@ -10,7 +11,7 @@ use Rattle.fields.specs.declared.Field.{Field}
 use Rattle.fields.specs.declared.Field.the-variants.{Number, Faulty}
 use Rattle.fields.specs.declared.FieldRead.{FieldRead}
 
--- "Inside a field a byte is a blank (32), a zero (48), a digit from 49 to 57, or foreign."
+-- rule 2.3: the classes of bytes
 pub data Class : Type 0 where
   Blank Zero Digit Foreign : Class
 
@@ -24,7 +25,7 @@ onClass Zero a b c d = b
 onClass Digit a b c d = c
 onClass Foreign a b c d = d
 
--- "a number right-justified after blanks, no zero in front of other digits, a lone 0 for zero": the columns after a digit, with the number so far
+-- rule 2.2, column by column. The columns after a digit, with the number so far
 abbrev pub digitsFrom : ℕ → ℕ → List ℕ → Field
 digitsFrom at v [] = Number v
 digitsFrom at v (b ∷ bs) = let r = digitsFrom at (10 * v + (b - 48)) bs in onClass (classOf b) (Faulty at) r r (Faulty at)
@@ -39,15 +40,15 @@ abbrev pub fieldFrom : ℕ → List ℕ → Field
 fieldFrom at [] = Faulty at
 fieldFrom at (b ∷ bs) = let r = fieldFrom at bs in let d = digitsFrom at (b - 48) bs in onClass (classOf b) r (zeroFrom at bs) d (Faulty at)
 
--- the field at a column; "with fewer than six bytes left the field is a fault". A faulty field is known by the column asked.
+-- the field at a column (rules 2.4 and 2.5): a fault with fewer than six bytes left, and known by the column asked
 abbrev pub fieldAt : ℕ → List ℕ → Field
 fieldAt at s = let f = fieldFrom at (take 6 (drop at s)) in pick (ltb (length s) (at + 6)) (Faulty at) f
 
--- "That column is six further on, also after a fault; with fewer than six bytes left .. the next column is the sheet's length."
+-- rule 2.5: six further on, or the end of the sheet
 abbrev pub nextColumn : ℕ → List ℕ → ℕ
 nextColumn at s = pick (ltb (length s) (at + 6)) (length s) (at + 6)
 
--- "Reading one field gives the number or its fault, together with the next column."
+-- rule 2.4: what reading a field answers
 abbrev pub fieldRead : List ℕ → ℕ → FieldRead
 fieldRead s at = record { next = nextColumn at s; field = fieldAt at s }
 

@@ -10,7 +10,7 @@ pub enum Field {
     Faulty(usize),
 }
 
-// What reading one field gives: the number or its fault, together with the next column.
+// What the reader of a field answers (rule 2.4).
 pub struct FieldRead {
     pub next: usize,
     pub field: Field,
@@ -66,7 +66,7 @@ fn scan_columns(sheet: &[u8], at: usize) -> Field
     }
 }
 
-// "Reading one field gives the number or its fault, together with the next column." Any column may be asked.
+// Reads one field (rules 2.4 and 2.5). Any column may be asked.
 pub fn read_field(sheet: &[u8], at: usize) -> FieldRead
     ensures { λ r. ⌜ r ≡ fieldRead (now (sheet .entry)) at ⌝ }
 {

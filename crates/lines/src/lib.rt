@@ -90,7 +90,7 @@ fn too_large_at(numbers: &[u32; 96], n: usize, i: usize, c: usize) -> bool
     false
 }
 
-// Whether the bundle s is worth at least as much as each bundle with one lot fewer.
+// Whether the bundle s is worth no less than without any one of its lots (rule 3.8).
 fn grows_to(numbers: &[u32; 96], n: usize, i: usize, s: usize) -> bool
     requires { ⌜ (n ≤ 4) × (i < 6) × (s < 16) ⌝ }
     ensures { λ r. ⌜ r ≡ grows (asSheet 0 n (now (numbers .entry))) i s ⌝ }

@@ -9,6 +9,6 @@ pub record Is (x r m : ℕ) : Type 0 where
   pub is : r ≡ x
   pub most : r ≤ m
 
--- whether a number has bit j. "A bundle's number is the sum of 2^(j − 1) over its lots j", so bit j of it is for lot j + 1
+-- whether a number has bit j; in the number of a bundle that is for lot j + 1 (rule 1.3)
 abbrev pub bit : ℕ → ℕ → Bool
 bit j s = eqb (s / 2 ^ j % 2) 1

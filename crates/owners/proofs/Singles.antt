@@ -1,6 +1,6 @@
 -- Single lots of which some may stay unsold, at most four, among at most six buyers. A bundle's bits are the lots that
 -- its buyer owns (`bundle-bit`). The lots make a `Hall` (`singles`), for any order of the owners. So demands 2 and 3
--- hold of document 01's sale (`sale-second`, `sale-third`), ties go to the list that comes first (`sale-ties`), and no
+-- hold of the rules' sale (`sale-second`, `sale-third`), ties go to the list that comes first (`sale-ties`), and no
 -- buyer gains by other worths than its true ones (`direct-no-gain`). Assumes worths of which all lots together have the
 -- most.
 use mathlib.Core.Path.{_≡_, refl, ap, _∙_}
@@ -120,7 +120,7 @@ limit-small m n few ws small =
       sum-mono m 1 (λ i. worth ws i (2 ^ n - 1)) (λ _. 9999) (λ i r. worth-small ws 9999 i (2 ^ n - 1) small),
     )
 
--- document 01's sale
+-- the sale of the rules
 module _ (m n : ℕ) (few : m ≤ 6) (short : n ≤ 4) where
   abbrev lists : List (List ℕ)
   lists = allocations (zeroFirst m) n

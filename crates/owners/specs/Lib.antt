@@ -1,5 +1,5 @@
--- Owner lists and price lists as an instance of the theory, and the sale of document 01 among them. Read Owners, Prices, Sales, Singles;
--- Quick has the rounds as the code takes them.
+-- Owner lists and price lists as an instance of the theory, and the sale of the rules among them. Read Owners, Prices,
+-- Sales, Singles; Quick has the rounds as the code takes them.
 pub mod Owners
 pub mod Prices
 pub mod Sales

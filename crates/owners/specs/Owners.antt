@@ -23,12 +23,12 @@ abbrev pub spread : List ℕ → List (List ℕ) → List (List ℕ)
 spread [] al = []
 spread (o ∷ os) al = withOwner o al ++ spread os al
 
--- "The list of all allocations of n lots is built lot by lot, from the lists for one lot fewer"
+-- rule 1.9: all allocations of n lots, from those of one lot fewer
 abbrev pub allocations : List ℕ → ℕ → List (List ℕ)
 allocations os zero = [] ∷ []
 allocations os (suc n) = spread os (allocations os n)
 
--- "One list comes before another if it has the lower owner at the first lot where they differ"
+-- rule 1.10: the first owners that are not alike decide
 abbrev pub ComesBefore : (ℕ → ℕ → Type 0) → List ℕ → List ℕ → Type 0
 ComesBefore earlier [] bs = ⊥
 ComesBefore earlier (a ∷ l) [] = ⊥
@@ -38,12 +38,12 @@ ComesBefore earlier (a ∷ l) (b ∷ bs) = earlier a b ⊎ ((a ≡ b) × ComesBe
 abbrev pub zeroFirst : ℕ → List ℕ
 zeroFirst m = upTo (suc m) 0
 
--- "a buyer's bundle is what it owns there": the shares of the lots from j on that i owns
+-- rule 5.6: i's bundle, as the shares of the lots from j on that i owns
 abbrev pub bundleFrom : (ℕ → ℕ) → ℕ → ℕ → List ℕ → ℕ
 bundleFrom share j i [] = 0
 bundleFrom share j i (o ∷ a) = when (eqb o i) (share j) + bundleFrom share (suc j) i a
 
--- "A bundle's number is the sum of 2^(j − 1) over its lots j": the share of a single lot, counted from 0
+-- rule 1.3: the share of a single lot in the number of a bundle; lots are counted from 0
 abbrev pub single : ℕ → ℕ
 single j = 2 ^ j
 
@@ -55,7 +55,7 @@ abbrev pub lacks : ℕ → List ℕ → Bool
 lacks i [] = true
 lacks i (o ∷ a) = not (eqb o i) && lacks i a
 
--- "The economies are all buyers together, and all buyers but one, for each one"
+-- rule 4.4: the economies, that of all first
 abbrev pub lackingFrom : ℕ → ℕ → List (List ℕ) → List (Economy (List ℕ))
 lackingFrom zero i al = []
 lackingFrom (suc k) i al = lacking i (keep (lacks i) al) ∷ lackingFrom k (suc i) al
@@ -63,7 +63,7 @@ lackingFrom (suc k) i al = lacking i (keep (lacks i) al) ∷ lackingFrom k (suc 
 abbrev pub economies : ℕ → List (List ℕ) → List (Economy (List ℕ))
 economies m al = whole al ∷ lackingFrom m 1 al
 
--- a set's "number is the sum of 2^(i − 1) over its buyers": whether it has buyer i
+-- rule 4.9: whether the set of number n has buyer i
 abbrev pub member : ℕ → ℕ → Bool
 member n i = bit (i - 1) n
 

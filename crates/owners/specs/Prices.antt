@@ -26,7 +26,7 @@ pub record Seated (S : Seats) (many low bits : ℕ) : Type 0 where
   pub sits : (i : ℕ) → Among many low i → (S .seat i < bits) × (S .taken (S .seat i) ≡ true) × (S .sitter (S .seat i) ≡ i)
   pub seats : (j : ℕ) → S .taken j ≡ true → Among many low (S .sitter j) × (S .seat (S .sitter j) ≡ j)
 
--- "There are ninety-six prices, sixteen to a buyer": m buyers, from 1 on, in six rows
+-- rule 1.6: m buyers, from 1 on, in six rows of sixteen prices
 abbrev pub plain : ℕ → Seats
 plain m = record { rows = 6; seat = λ i. i - 1; sitter = suc; taken = λ j. ltb j m }
 
@@ -34,15 +34,15 @@ module _ (S : Seats) where
   abbrev pub seatMember : ℕ → ℕ → Bool
   seatMember n i = bit (S .seat i) n
 
-  -- "all zero at the start"
+  -- rule 1.6: the prices at the start
   abbrev pub zeros : List ℕ
   zeros = replicate (16 * S .rows) 0
 
-  -- "the empty bundle always costs 0"
+  -- rule 1.5: the empty bundle costs 0
   abbrev pub price : List ℕ → Table
   price ps i s = pick (eqb s 0) 0 (getD ps (16 * S .seat i + s) 0)
 
-  -- "A buyer's payoff from a bundle is worth less price, and may be negative": kept 65,535 higher, so that none is
+  -- rule 4.1: worth less price, kept 65,535 higher, so that none is negative
   abbrev pub payoff : Table → List ℕ → Table
   payoff v ps i s = v i s + 65535 - price ps i s
 
@@ -50,7 +50,7 @@ module _ (S : Seats) where
   abbrev pub best : ℕ → Table → List ℕ → ℕ → ℕ
   best all v ps i = most (payoff v ps i) (upTo all 0)
 
-  -- "The demand set holds all bundles of greatest payoff", and "A buyer is keen if that greatest payoff is above 0"
+  -- rules 4.2 and 4.3: who demands what, and who is keen
   abbrev pub quote : ℕ → Table → List ℕ → Quote
   quote all v ps =
       record {
@@ -67,7 +67,7 @@ module _ (S : Seats) where
   abbrev pub read : ℕ → ℕ → Bool
   read all k = S .taken (k / 16) && (leb 1 (k - 16 * (k / 16)) && ltb (k - 16 * (k / 16)) all)
 
-  -- "Every price of a member for a bundle it demands rises by 1": the price at place k, which is that of row j and bundle s
+  -- rule 4.11: the price at place k after a round; the place is that of row j and bundle s
   abbrev pub raisedAt : ℕ → Table → (ℕ → Bool) → List ℕ → ℕ → ℕ → ℕ → ℕ
   raisedAt all v set ps k j s =
       getD ps k 0 + when (S .taken j && (leb 1 s && (ltb s all && (set (S .sitter j) && quote all v ps .wants (S .sitter j) s)))) 1

@@ -1,5 +1,6 @@
--- The sale of document 01, by lists of ninety-six worths and prices: single lots, of which some may stay unsold. Offers the auction `sale`,
--- the rounds from `startPrices` on (`saleSets`, `salePrices`), and whether prices are settled (`saleChoice`).
+-- The sale of the rules (docs/RULES.md), by lists of ninety-six worths and prices: single lots, of which some may stay
+-- unsold. Offers the auction `sale`, the rounds from `startPrices` on (`saleSets`, `salePrices`), and whether prices
+-- are settled (`saleChoice`).
 -- The numbers 96 and 2 ^ 6 stand under definitions that unfold only where a proof asks for it.
 use mathlib.Core.List.{List}
 use Prim.Native.Nat.{ℕ, _-_, _^_, _≤_, _<_}

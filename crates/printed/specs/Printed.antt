@@ -1,4 +1,5 @@
--- "The printed sale": the bytes that are printed of a sale's answer (`printed`), and of a sheet (`printedSale`).
+-- The printed sale (section 6 of the rules): the bytes that are printed of a sale's answer (`printed`), and of a sheet
+-- (`printedSale`).
 use mathlib.Core.Path.{_≡_}
 use mathlib.Core.Logic.{_≢_}
 use mathlib.Core.List.{List, [], _∷_, _++_}
@@ -18,16 +19,16 @@ use Rattle.sale.specs.Answers.{saleFault, settledSale, saleAnswer, saleRecord, 
 use Rattle.demands.specs.Claims.{Numbered}
 use Rattle.printed.specs.declared.Text.{Text}
 
--- "a line per lot of lot and owner"; lots are counted from 0 here
+-- rule 6.3: the line of a lot; lots are counted from 0 here
 abbrev pub lotLine : List ℕ → ℕ → List ℕ
 lotLine owners j = (j + 1) ∷ getD owners j 0 ∷ []
 
--- "a line per buyer of buyer, price of its bundle, discount, payment"
+-- rule 6.3: the line of a buyer, counted from 0 as well
 abbrev pub buyerLine : ℕ → List ℕ → List ℕ → List ℕ → List ℕ → ℕ → List ℕ
 buyerLine lots owners prices discounts payments i =
     (i + 1) ∷ price (plain 6) prices (i + 1) (bundleFrom single 0 (i + 1) (take lots owners)) ∷ getD discounts i 0 ∷ getD payments i 0 ∷ []
 
--- "Settled: first a line of 0, buyers, lots, rounds"
+-- rule 6.3: the first line, then those of the lots and of the buyers
 abbrev pub settledBy : ℕ → ℕ → ℕ → List ℕ → List ℕ → List ℕ → List ℕ → List (List ℕ)
 settledBy buyers lots rounds prices owners discounts payments =
     (0 ∷ buyers ∷ lots ∷ rounds ∷ [])
@@ -36,7 +37,7 @@ settledBy buyers lots rounds prices owners discounts payments =
 abbrev pub settledText : Sale → List ℕ
 settledText r = linesOf (settledBy (r .buyers) (r .lots) (r .rounds) (r .prices) (r .owners) (r .discounts) (r .payments))
 
--- "Refused: one line of number and place"
+-- rule 6.4: the line of a refusal
 abbrev pub refusedText : ℕ → ℕ → List ℕ
 refusedText number place = lineOf (number ∷ place ∷ [])
 

@@ -65,7 +65,7 @@ fn rises(
     }
 }
 
-// "Every price of a member for a bundle it demands rises by 1".
+// The prices after a round: each member's rise by 1 for the bundles that it demands (rule 4.11).
 pub fn raise(
     worths: &[u16; 96],
     payoffs: &[u32; 6],

@@ -29,7 +29,7 @@ fn choice(
     supply::lowest(values, &payoffs, buyers)
 }
 
-// "The set's number is the next byte of the record": the first of the rest.
+// Writes a set's number to the next byte of the record, the first of the rest (rule 4.12).
 fn note(rest: &mut [u8], number: usize)
     requires { ⌜ (0 < length (now rest)) × (number < 64) ⌝ }
     ensures { λ _. ⌜ now (rest .exit) ≡ set (now (rest .entry)) 0 number ⌝ }
@@ -37,7 +37,7 @@ fn note(rest: &mut [u8], number: usize)
     rest[0] = number as u8;
 }
 
-// A round, "handed the rest of the record": the set's number is its next byte.
+// A round, with the rest of the record (rule 4.12): the set's number is its next byte.
 fn round(
     worths: &[u16; 96],
     values: &[u32; 64],
@@ -70,7 +70,7 @@ fn round(
     }
 }
 
-// "There are ninety-six prices, sixteen to a buyer, all zero at the start".
+// The state before the first round: ninety-six zeros (rule 1.6).
 fn start() -> State
     ensures { λ r. ⌜ (r .prices ≡ startPrices) × (r .rounds ≡ 0) ⌝ }
 {

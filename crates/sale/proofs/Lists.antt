@@ -32,14 +32,14 @@ replicate-lacks i zero h = refl
 replicate-lacks i (suc n) h = rw (ne-eqb 0 i (λ z. omega arith), replicate-lacks i n h)
 
 module _ (w : Sheet) where
-  -- "An allocation is an owner list for the sheet's lots in which each owner is 0 or one of its buyers"
+  -- the allocations listed are those of rule 5.6
   pub allocations-all : (a : List ℕ) → (a ∈ allocations w) ↔ ((length a ≡ w .lots) × ((o : ℕ) → o ∈ a → o ≤ w .buyers))
   allocations-all a = (
     λ h. let (l, from) = allocation-from (zeroFirst (w .buyers)) (w .lots) h in (l, λ o m. omega (arith, upTo-from (suc (w .buyers)) 0 (from o m))),
     λ h. allocation-in (zeroFirst (w .buyers)) (w .lots) a (h .0) (λ o m. upTo-in (suc (w .buyers)) 0 (omega (arith, h .1 o m))),
   )
 
-  -- "One list comes before another if it has the lower owner at the first lot where they differ."
+  -- in the order of rule 1.10
   pub allocations-ordered : Ordered (ComesBefore _<_) (allocations w)
   allocations-ordered = order.allocations-ordered _<_ (zeroFirst (w .buyers)) (order.first-ordered (suc (w .buyers)) 0) (w .lots)
 

@@ -1,4 +1,4 @@
--- Entries for absent buyers, absent bundles and the empty bundle are never read (`reads-present`). Assumes nothing.
+-- The entries of a table that rule 1.7 names make no difference (`reads-present`). Assumes nothing.
 use mathlib.Core.Path.{_≡_, ap}
 use mathlib.Core.Bool.{_||_}
 use mathlib.Core.List.{List}

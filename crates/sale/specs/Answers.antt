@@ -18,15 +18,15 @@ use Rattle.sale.specs.declared.Sale.{Sale}
 use Rattle.sale.specs.Words.{demandSet, isKeen}
 use Rattle.sale.specs.Rounds.{roundLimit, saleSets, lastPrices, ownersBy, discountFor, paymentFor}
 
--- "Only for a sale: has the lent record at least as many bytes as the sum, over buyers, of the worth of all lots together? No: 9."
+-- rule 3.9: questions 1 to 8, then 9; `room` is the length of the record
 abbrev pub saleFault : List ℕ → ℕ → Fault
 saleFault b room = let f = sheetFault b in onward (accepts f) (λ _. ask 9 (leb (roundLimit (sheetOf b)) room) λ _. fault 0 0) f
 
--- "Only for a demand answer: is the buyer asked about 1 to m? No: 10."
+-- rule 3.10: questions 1 to 8, then 10
 abbrev pub demandFault : List ℕ → ℕ → Fault
 demandFault b i = let f = sheetFault b in onward (accepts f) (λ _. ask 10 (between (sheetOf b .buyers) i) λ _. fault 0 0) f
 
--- "A refusal returns its number and place, every other number 0"
+-- rule 3.14: number and place, and zeros
 unfoldable pub refusedDemand : Fault → Demand
 refusedDemand f = record { number = f .number; place = f .place; bundles = 0; keen = false }
 
@@ -50,7 +50,7 @@ demandAnswer b i ps =
     let f = demandFault b i in
     onward (accepts f) (λ _. record { number = 0; place = 0; bundles = demandSet (sheetOf b) ps i; keen = isKeen (sheetOf b) ps i }) (refusedDemand f)
 
--- "A sale answers buyers, lots, rounds, prices, owners, discounts and payments"
+-- rule 5.4: a settled sale's answer
 unfoldable pub settledSale : Sheet → Sale
 settledSale w =
     record {
@@ -83,7 +83,7 @@ soldBy m n s c =
 unfoldable pub saleAnswer : List ℕ → ℕ → Sale
 saleAnswer b room = let f = saleFault b room in onward (accepts f) (λ _. settledSale (sheetOf b)) (refusedSale f)
 
--- "The set's number is the next byte of the record"; "Bytes after the last round keep their old values"; refused, "the record keeps all its bytes"
+-- the record after a sale: rule 4.12; refused, rule 3.14
 unfoldable pub saleRecord : List ℕ → List ℕ → List ℕ
 saleRecord b o = onward (accepts (saleFault b (length o))) (λ _. over (saleSets (sheetOf b)) o) o
 

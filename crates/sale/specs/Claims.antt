@@ -57,7 +57,7 @@ module _ (w : Sheet) where
     pub allocations-ordered : Ordered (ComesBefore _<_) (allocations w)
     pub economy-whole : economy w 0 ≡ allocations w
     pub economy-all : (e : ℕ) → 1 ≤ e → (a : List ℕ) → (a ∈ economy w e) ↔ ((a ∈ allocations w) × (lacks e a ≡ true))
-    -- "With m = 1 the second kind has no buyer and one allocation, nothing sold"
+    -- rule 4.4: of one buyer that is nothing sold
     pub economy-alone : w .buyers ≡ 1 → (a : List ℕ) → (a ∈ economy w 1) ↔ (a ≡ replicate (w .lots) 0)
     -- a bundle's bits are the lots that its buyer owns, and it has no others
     pub bundle-bits : (a : List ℕ) → a ∈ allocations w → (i j : ℕ) → j < w .lots →
@@ -76,12 +76,11 @@ module _ (w : Sheet) where
     -- a round raises the prices of the set's members for the bundles that they demand, and no others, by 1
     pub raised-price : (set i s : ℕ) → Among (w .buyers) 1 i → 1 ≤ s → s < 2 ^ w .lots →
         priceAt w (raised w set ps) i s ≡ priceAt w ps i s + when (member set i && bit s (demandSet w ps i)) 1
-    -- what fits reaches the revenue and gives each buyer a demanded bundle or the empty one
+    -- what fits (rule 4.6), by payoffs and totals of prices
     pub fits-means : (e : ℕ) (a : List ℕ) → a ∈ economy w e → (fits w ps e a ≡ true) ↔
         (((c : List ℕ) → c ∈ economy w e → total (market w) (priceAt w ps) c ≤ total (market w) (priceAt w ps) a)
         × ((i : ℕ) → Among (w .buyers) 1 i → (market w .holds a i ≡ 0) ⊎ Demanded ps i (market w .holds a i)))
-    -- an undersupplied set has keen members alone, and in some economy no fitting allocation gives all that are present
-    -- a demanded bundle
+    -- what an undersupplied set is (rule 4.7), by fitting allocations and payoffs
     pub undersupplied-means : (set : ℕ) → (undersupplied w ps set ≡ true) ↔
         (((i : ℕ) → Among (w .buyers) 1 i → member set i ≡ true → isKeen w ps i ≡ true)
         × ((e : ℕ) × (e ≤ w .buyers) × ((a : List ℕ) → a ∈ economy w e → fits w ps e a ≡ true →
@@ -101,7 +100,7 @@ module _ (w : Sheet) where
         ((a : List ℕ) × (a ∈ economy w e) × (total (market w) (priceAt w ps) a ≡ revenue w ps e))
         × ((c : List ℕ) → c ∈ economy w e → total (market w) (priceAt w ps) c ≤ revenue w ps e)
     pub exact-discount : (i : ℕ) → Among (w .buyers) 1 i → discountFor w ps i + revenue w ps i ≡ revenue w ps 0
-    -- entries for absent buyers, absent bundles and the empty bundle are never read
+    -- rule 1.7: the entries that are not read make no difference
     pub reads-present : (qs : List ℕ) → Agree ps qs → SameAnswers ps qs
 
   -- after k rounds

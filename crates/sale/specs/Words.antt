@@ -1,5 +1,6 @@
--- "Words of the sale" and "Rounds": a sheet's worths, allocations, economies, demand, fitting allocations and undersupplied sets, as an instance of the
--- auction of owner lists. Prices are a list of ninety-six, sixteen to a buyer. Payoffs are kept 65,535 higher, so that none is negative.
+-- The words of sections 1 and 4 of the rules: a sheet's worths, allocations, economies, demand, fitting allocations and
+-- undersupplied sets, as an instance of the auction of owner lists. Prices are a list of ninety-six, sixteen to a
+-- buyer. Payoffs are kept 65,535 higher, so that none is negative.
 use mathlib.Core.Bool.{Bool}
 use mathlib.Core.List.{List}
 use Prim.Native.Nat.{ℕ, _^_}
@@ -14,45 +15,45 @@ pub use Rattle.totals.specs.Words.{worthOf, allocations, market, economy}
 use Rattle.sheet.specs.Sheets.{Sheet}
 
 module _ (w : Sheet) where
-  -- "There are ninety-six prices, sixteen to a buyer"; "the empty bundle always costs 0"
+  -- buyer i's price of a bundle (rules 1.5 and 1.6)
   abbrev pub priceAt : List ℕ → Table
   priceAt ps i s = prices.price (prices.plain (w .buyers)) ps i s
 
-  -- the auction: its economies "are all buyers together, and all buyers but one, for each one"; a set's number "is the sum of 2^(i − 1)"
+  -- the auction, with its economies (rule 4.4) and the numbers of sets (rule 4.9)
   abbrev pub theAuction : auction.Auction (List ℕ)
   theAuction = singles.sale (w .buyers) (w .lots)
 
   module _ (ps : List ℕ) where
-    -- "A buyer's payoff from a bundle is worth less price": its greatest payoff, 65,535 higher
+    -- a buyer's greatest payoff (rule 4.1), 65,535 higher
     abbrev pub best : ℕ → ℕ
     best i = prices.best (prices.plain (w .buyers)) (2 ^ w .lots) (worthOf w) ps i
 
     abbrev pub quote : auction.Quote
     quote = prices.quote (prices.plain (w .buyers)) (2 ^ w .lots) (worthOf w) ps
 
-    -- "The demand set holds all bundles of greatest payoff, the empty one included. It is answered as the sum of 2^S over its bundles S."
+    -- rule 4.2: whether a bundle is demanded, and the demand set as one number
     abbrev pub demands : ℕ → ℕ → Bool
     demands i s = quote .wants i s
 
     abbrev pub demandSet : ℕ → ℕ
     demandSet i = demand.demandSet (w .lots) quote i
 
-    -- "A buyer is keen if that greatest payoff is above 0" (the set B⁺)
+    -- rule 4.3: whether a buyer has a positive payoff (is in B⁺)
     abbrev pub isKeen : ℕ → Bool
     isKeen i = quote .keen i
 
-    -- "An economy's revenue is the greatest sum of prices over its allocations."
+    -- rule 4.5: the most that an allocation of economy e brings
     abbrev pub revenue : ℕ → ℕ
     revenue e = totals.greatestAt (w .buyers) (w .lots) ps e
 
-    -- "An allocation fits if it reaches that revenue and gives each buyer a demanded bundle or the empty one."
+    -- rule 4.6: whether it brings the revenue, and gives nobody what it does not demand (is in L*)
     abbrev pub fits : ℕ → List ℕ → Bool
     fits e a = auction.fits (market w) quote (economy w e) a
 
-    -- "A set of keen buyers, the empty set too, is undersupplied if in some economy no fitting allocation gives every member present a demanded bundle."
+    -- rule 4.7: keen buyers whom in some economy, as far as they are present, no fitting allocation serves
     abbrev pub undersupplied : ℕ → Bool
     undersupplied set = auction.undersupplied (market w) quote (theAuction .economies) (member set)
 
-    -- 1 more than the number of the lowest undersupplied set, 0 for none
+    -- rule 4.10: 1 more than the number of the lowest undersupplied set, 0 for none
     abbrev pub lowest : ℕ
     lowest = auction.chosen theAuction quote

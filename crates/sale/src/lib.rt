@@ -61,7 +61,7 @@ pub fn refused_sale(number: u8, place: u32) -> Sale
     }
 }
 
-// Question 9's sum, over buyers, of the worth of all lots together.
+// Question 9's sum (rule 3.9).
 pub fn round_limit(worths: &[u16; 96], m: usize, n: usize) -> u32
     requires { ⌜ (m ≤ 6) × (1 ≤ n) × (n ≤ 4) × AtMost 9999 (now worths) ⌝ }
     ensures { λ r. ⌜ Is (roundLimit (asSheet m n (now (worths .entry)))) r 59994 ⌝ }

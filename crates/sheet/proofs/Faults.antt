@@ -189,7 +189,7 @@ module _ (b : List ℕ) where
   before-more k before q j h =
       elim (ℕ-discrete k j) [ yes e ↦ subst (Question b) e q | no e ↦ before j (omega arith) ]
 
-  -- C17: the number is k exactly if the questions below k get a "yes" and k gets none; it is 0 exactly if all get one
+  -- the number is k exactly if the questions below k get a "yes" and k gets none; it is 0 exactly if all get one
   pub first-no : (k : ℕ) → 1 ≤ k → (sheetFault b .number ≡ k) ↔ (((j : ℕ) → j < k → Question b j) × (Question b k → ⊥))
   first-no zero l = absurd (omega arith)
   first-no (suc k) l =

@@ -24,8 +24,7 @@ cells m n v = tabulate 96 0 (cellAt m n v)
 abbrev pub tableSheet : ℕ → ℕ → Table → Sheet
 tableSheet m n v = asSheet m n (cells m n v)
 
--- "m from 1 to 6 and n from 1 to 4. A worth is 0 to 9,999; the empty bundle is worth 0", and a bundle at least as much
--- as with one lot fewer
+-- m and n as rule 1.2 has them, worths as rule 1.4 has them, and a bundle worth at least as much as with one lot fewer
 pub record Tabled (m n : ℕ) (v : Table) : Type 0 where
   pub buyers : (1 ≤ m) × (m ≤ 6)
   pub lots : (1 ≤ n) × (n ≤ 4)

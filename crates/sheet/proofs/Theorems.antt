@@ -60,11 +60,11 @@ module _ (b : List ℕ) where
       (each-cases P 7 n (firstWrong 7 b w) _ (λ j h. placed long 7 j (omega arith) (omega arith) h)
       (each-cases P 8 n (firstWrong 8 b w) _ (λ j h. placed long 8 j (omega arith) (omega arith) h) none)))))))
 
-  -- C27: the number is 0, or one of 1 to 8
+  -- the number is 0, or one of 1 to 8 (rules 3.1 to 3.8)
   pub refusal-range : sheetFault b .number ≤ 8
   refusal-range = fault-cases (λ f. f .number ≤ 8) (λ k _ h. omega arith) (λ _ q k _ h _. omega arith) (omega arith)
 
-  -- C26, C28: without 6, 7, 8 the place is 0; with them it stands in the lines after the first
+  -- rule 3.13: without 6, 7, 8 the place is 0; with them it stands in the lines after the first
   pub place-zero : sheetFault b .number < 6 → sheetFault b .place ≡ 0
   place-zero = fault-cases (λ f. f .number < 6 → f .place ≡ 0) (λ k _ _ _. refl) (λ _ q k l _ _ h. absurd (omega arith)) (λ _. refl)
 
@@ -77,7 +77,7 @@ module _ (b : List ℕ) where
       (omega arith, omega (arith, f .offset-is, suc-mul (f .line) (lineLength n), mul-le-mul-right {m = suc (f .line)} {n = w .buyers} (lineLength n) (f .below .0), f .below .1)))
       (λ l. absurd (omega arith))
 
-  -- C19 to C22: with 6, 7, 8 the place is the least offset of all places that are wrong in that way
+  -- rule 3.13: with 6, 7, 8 the place is the least offset of all places that are wrong in that way
   placed : (q : ℕ) → 6 ≤ q → sheetFault b .number ≡ q → LeastPlace w (λ i c. wrong q b w i c ≡ true) (sheetFault b .place)
   placed q l =
       fault-cases (λ f. f .number ≡ q → LeastPlace w (λ i c. wrong q b w i c ≡ true) (f .place))
@@ -106,7 +106,7 @@ module _ (b : List ℕ) where
     yes-to : (k : ℕ) → Question b k
     yes-to = all-yes b .0 accepted
 
-    -- C1, C3
+    -- rules 1.2 and 1.4
     pub accepted-shape : Shape w
     accepted-shape =
         let m = w .buyers in
@@ -119,12 +119,12 @@ module _ (b : List ℕ) where
     pub accepted-grows : Grows w
     accepted-grows = growing b (yes-to 8)
 
-    -- C30: a bundle within another is worth at most as much
+    -- rule 3.8, step by step: a bundle within another is worth at most as much
     pub accepted-monotone : (i s t : ℕ) → i < w .buyers → s < 2 ^ n → t < 2 ^ n → ((j : ℕ) → j < n → bit j s ≡ true → bit j t ≡ true) → worth w i s ≤ worth w i t
     accepted-monotone i s t h g k sub =
         subset-monotone n (worth w i) (λ j x l m. accepted-grows i x j h m l) s t k sub g
 
-    -- C11, C16: its bytes are those in which its numbers are written
+    -- rules 2.6 and 2.7: its bytes are those in which its numbers are written
     written : (at : ℕ) → GoodField b at → take 6 (drop at b) ≡ columns 6 (numberAt at b)
     written at h = field-canonical b at (h .0) .0 (h .1) .2 ∙ ap (columns 6) (sym (ap numberOf (h .1)))
 

@@ -9,7 +9,7 @@ use Rattle.sheet.specs.declared.Worths.{Worths}
 use Rattle.sheet.specs.Sheets.{Sheet, sheetOf}
 use Rattle.sheet.specs.Questions.{accepts, sheetFault}
 
--- "A refusal returns its number and place, every other number 0"
+-- rule 3.14: number and place, and zeros
 unfoldable pub refusal : ℕ → ℕ → Worths
 refusal k p = record { number = k; place = p; buyers = 0; lots = 0; worths = replicate 96 0 }
 

@@ -1,5 +1,6 @@
--- The questions as propositions, in document 01's words, to read a sheet's fault by (`Question`); what is wrong at an offset with 6, 7 and 8 (`WrongAt`,
--- `LeastPlace`); what is known of an accepted sheet (`Shape`, `Grows`); and all that is claimed of sheets (`Sheets`).
+-- The questions as propositions, one for each of rules 3.1 to 3.8, to read a sheet's fault by (`Question`); what is
+-- wrong at an offset with 6, 7 and 8 (`WrongAt`, `LeastPlace`); what is known of an accepted sheet (`Shape`, `Grows`);
+-- and all that is claimed of sheets (`Sheets`).
 use mathlib.Core.Path.{_≡_}
 use mathlib.Core.Logic.{_≢_, _⊎_, _↔_}
 use mathlib.Core.Bool.{true}
@@ -19,9 +20,7 @@ startOf n i c = 13 + (i * (6 * (2 ^ n - 1) + 1) + 6 * c)
 abbrev pub GoodField : List ℕ → ℕ → Type 0
 GoodField b at = (v : ℕ) × (fieldAt at b ≡ Number v)
 
--- "Has it 13 bytes or more?" "Is the first line two good fields and a line end at offset 12?" "Is the number of buyers 1 to 6?" "Is the number of lots
--- 1 to 4?" "Is the length exactly 13 + m × (6 × (2^n − 1) + 1)?" "Are all later fields and line ends good?" "Is every worth at most 9,999?" "Is every
--- bundle of two or more lots worth at least as much as each bundle with one lot fewer?" They stand at 1 to 8; there is no question 0.
+-- rules 3.1 to 3.8: question k stands at place k of the list; there is no question 0
 abbrev pub questions : List ℕ → Sheet → List (Type 0)
 questions b w =
     Unit {0}
@@ -39,7 +38,7 @@ questions b w =
 abbrev pub Question : List ℕ → ℕ → Type 0
 Question b k = getD (questions b (sheetOf b)) k (Unit {0})
 
--- "With 6, 7 and 8 the place is the offset of the first faulty field's first byte, or of the faulty line end": what is wrong at place c of line i
+-- what is wrong by question 6, 7 or 8 at place c of line i (rule 3.13)
 module _ (w : Sheet) (i c : ℕ) where
   abbrev pub Malformed : List ℕ → Type 0
   Malformed b =
@@ -70,7 +69,7 @@ Placed b number p = let w = sheetOf b in
     (number ≡ 6 → LeastPlace w (λ i c. Malformed w i c b) p) × (number ≡ 7 → LeastPlace w (TooLarge w) p)
     × (number ≡ 8 → LeastPlace w (Falls w) p)
 
--- an accepted sheet's shape: "m from 1 to 6 and n from 1 to 4. A worth is 0 to 9,999; the empty bundle is worth 0"; absent buyers and bundles have worth 0
+-- an accepted sheet's shape: its size (rule 1.2), its worths (rule 1.4), and 0 for absent buyers and bundles (rule 1.7)
 pub record Shape (w : Sheet) : Type 0 where
   pub some-buyers : 1 ≤ w .buyers
   pub few-buyers : w .buyers ≤ 6

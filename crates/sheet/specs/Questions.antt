@@ -1,4 +1,5 @@
--- "Questions put to a sheet": 1 to 8, as tests. Offers the fault of a sheet (`sheetFault`): the number and place of the first "no", 0 and 0 for none.
+-- The questions put to a sheet (rules 3.1 to 3.8), as tests. Offers the fault of a sheet (`sheetFault`): the number and
+-- place of the first "no", 0 and 0 for none.
 use mathlib.Core.Bool.{Bool, true, false, not, _&&_}
 use mathlib.Core.List.{List}
 use Prim.Native.Nat.{ℕ, zero, suc, _+_, _-_, _*_, _/_, _%_, _^_}
@@ -43,7 +44,7 @@ between k m = leb 1 m && leb m k
 abbrev pub rightLength : List ℕ → Sheet → Bool
 rightLength b w = eqb (length b) (13 + w .buyers * lineLength (w .lots))
 
--- the bundle s of line i is worth at least as much as each bundle with one lot fewer (the empty one, worth 0, among them)
+-- rule 3.8: the bundle s of line i is worth no less than without any one of its lots (for a single lot that is 0)
 abbrev pub grows : Sheet → ℕ → ℕ → Bool
 grows w i s = every (w .lots) 0 (λ j. bit j s ⊃ leb (worth w i (s - 2 ^ j)) (worth w i s))
 
@@ -69,7 +70,7 @@ wrong k b w i c = pick (eqb k 6) (malformed w i c b) (pick (eqb k 7) (tooLarge w
 unfoldable pub firstWrong : ℕ → List ℕ → Sheet → ℕ
 firstWrong k b w = least (w .buyers * 2 ^ w .lots) 0 (λ j. wrong k b w (j / 2 ^ w .lots) (j % 2 ^ w .lots))
 
--- "Asked in this order; the first "no" gives its number." "Each question is put to the whole sheet before the next."
+-- rules 3.11 and 3.12: in order, each of the whole sheet, up to the first "no"
 unfoldable pub linesFault : List ℕ → Sheet → Fault
 linesFault b w =
     askEach 6 (w .lots) (firstWrong 6 b w) λ _.

@@ -10,7 +10,7 @@ use Rattle.theory.specs.Sums.{when}
 use Rattle.theory.specs.Lists.{tabulate}
 use Rattle.fields.specs.Fields.{numberAt, linesOf}
 
--- "Then each buyer has one line with the worths of bundles 1, 2, .. up to 2^n − 1": six columns each, and the line end
+-- rule 2.7: a line has a field of six columns for each bundle but the empty one, and the line end
 abbrev pub lineLength : ℕ → ℕ
 lineLength n = 6 * (2 ^ n - 1) + 1
 
@@ -27,7 +27,7 @@ pub record Sheet : Type 0 where
 abbrev pub asSheet : ℕ → ℕ → List ℕ → Sheet
 asSheet m n ws = record { buyers = m; lots = n; worths = ws }
 
--- "the empty bundle is worth 0"
+-- rule 1.4: the empty bundle has worth 0
 abbrev pub worthIn : ℕ → List ℕ → ℕ → ℕ → ℕ
 worthIn n b i zero = 0
 worthIn n b i (suc c) = numberAt (offset n i c) b

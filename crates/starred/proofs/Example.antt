@@ -1,4 +1,4 @@
--- Document 01's example and table 3 are printed as document 01 has them (`example`), by computing. Assumes nothing.
+-- The example is printed as rule 6.5 has it, and table 3 by the same rules (`example`), by computing. Assumes nothing.
 use mathlib.Core.Path.{refl}
 use Rattle.owners.specs.Singles as singles
 use Rattle.sheet.specs.Sheets.{worthsIn}

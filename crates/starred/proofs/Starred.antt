@@ -1,4 +1,5 @@
--- The starred sales are as document 01 has them: all rows of one table (`starred`), by computing. Assumes nothing.
+-- The starred sales are as section 7 of the rules has them: all rows of one table (`starred`), by computing. Assumes
+-- nothing.
 use mathlib.Core.Path.{refl}
 use Rattle.owners.specs.Singles as singles
 use Rattle.sheet.specs.Sheets.{worthsIn}

@@ -1,4 +1,4 @@
--- Document 01's example of a printed sale, and table 3's, byte by byte: their numbers have one digit each.
+-- The example of a printed sale (rule 6.5), and table 3's, byte by byte: their numbers have one digit each.
 use mathlib.Core.Path.{_≡_}
 use mathlib.Core.List.{List, [], _∷_, _++_}
 use Prim.Native.Nat.{ℕ, _+_}
@@ -12,15 +12,15 @@ abbrev pub row : List ℕ → List ℕ
 row [] = 10 ∷ []
 row (d ∷ ds) = digit d ++ row ds
 
--- "Input"
+-- the sheet of the example
 abbrev pub input : List ℕ
 input = row (2 ∷ 2 ∷ []) ++ row (2 ∷ 0 ∷ 2 ∷ []) ++ row (0 ∷ 1 ∷ 3 ∷ [])
 
--- "Output, whole"
+-- its printed sale, whole
 abbrev pub output : List ℕ
 output = row (0 ∷ 2 ∷ 2 ∷ 2 ∷ []) ++ row (1 ∷ 1 ∷ []) ++ row (2 ∷ 2 ∷ []) ++ row (1 ∷ 2 ∷ 0 ∷ 2 ∷ []) ++ row (2 ∷ 0 ∷ 0 ∷ 0 ∷ [])
 
--- table 3 of source document 000, where rounds and lots differ, and so do prices, discounts and payments
+-- table 3 of the paper, where rounds and lots differ, and so do prices, discounts and payments
 abbrev pub table-3 : List ℕ
 table-3 = row (3 ∷ 2 ∷ []) ++ row (3 ∷ 0 ∷ 3 ∷ []) ++ row (0 ∷ 6 ∷ 6 ∷ []) ++ row (0 ∷ 2 ∷ 4 ∷ [])
 

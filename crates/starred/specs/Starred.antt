@@ -1,6 +1,6 @@
--- The starred sales of document 01 as one table, with rows that catch what those miss. A row has a sheet, the record's
--- length, the answers of reading, of a sale and of the direct way, and all owner lists of greatest total. Sheets are
--- given by their numbers: `sheetBy` lays out the bytes.
+-- The starred sales (section 7 of the rules) as one table, with rows that catch what those miss. A row has a sheet, the
+-- record's length, the answers of reading, of a sale and of the direct way, and all owner lists of greatest total.
+-- Sheets are given by their numbers: `sheetBy` lays out the bytes.
 use mathlib.Core.Path.{_≡_}
 use mathlib.Core.List.{List, [], _∷_, _++_, map}
 use Prim.Native.Nat.{ℕ, _-_}
@@ -65,7 +65,7 @@ sold m n worths room sets prices owners discounts payments total ties =
       greatest = owners ∷ ties;
     }
 
--- "A refusal returns its number and place, every other number 0"
+-- rule 3.14, with the zeros written out
 abbrev pub noSale : ℕ → ℕ → Sale
 noSale number place =
     record {
@@ -114,41 +114,41 @@ refuses sheet number place =
 
 abbrev pub rows : List Row
 rows =
-    -- "The sheet above: record 3 3; owners (2,2) reach the same total, but (1,2) comes first." "The same with a record of 5 bytes: settled."
+    -- rules 7.2 and 7.3: the example, with 5 bytes of record
     sold 2 2 ((2 ∷ 0 ∷ 2 ∷ []) ∷ (0 ∷ 1 ∷ 3 ∷ []) ∷ []) 5
     (3 ∷ 3 ∷ []) ((2 ∷ 0 ∷ 2 ∷ []) ∷ (0 ∷ 0 ∷ 2 ∷ []) ∷ [])
     (1 ∷ 2 ∷ []) (0 ∷ 0 ∷ []) (2 ∷ 0 ∷ []) 3 ((2 ∷ 2 ∷ []) ∷ []) ∷
-    -- "With 4: refusal 9."
+    -- rule 7.3: with 4
     tooShort 2 2 ((2 ∷ 0 ∷ 2 ∷ []) ∷ (0 ∷ 1 ∷ 3 ∷ []) ∷ []) 4
     (1 ∷ 2 ∷ []) (2 ∷ 0 ∷ []) 3 ((2 ∷ 2 ∷ []) ∷ []) ∷
-    -- "Table 3 of source document 000"
+    -- rule 7.4: table 3 of the paper
     sold 3 2 ((3 ∷ 0 ∷ 3 ∷ []) ∷ (0 ∷ 6 ∷ 6 ∷ []) ∷ (0 ∷ 2 ∷ 4 ∷ []) ∷ []) 13
     (5 ∷ 2 ∷ 4 ∷ 1 ∷ 2 ∷ 4 ∷ 2 ∷ 4 ∷ 2 ∷ []) ((2 ∷ 0 ∷ 2 ∷ []) ∷ (0 ∷ 4 ∷ 4 ∷ []) ∷ (0 ∷ 2 ∷ 4 ∷ []) ∷ [])
     (1 ∷ 2 ∷ []) (2 ∷ 2 ∷ 0 ∷ []) (0 ∷ 2 ∷ 0 ∷ []) 9 [] ∷
-    -- "One lot, worths 5 and 3: record 3 3 3, owner 1, payments 3, 0."
+    -- rule 7.5: one lot, worths of 5 and 3
     sold 2 1 ((5 ∷ []) ∷ (3 ∷ []) ∷ []) 8
     (3 ∷ 3 ∷ 3 ∷ []) ((3 ∷ []) ∷ (3 ∷ []) ∷ [])
     (1 ∷ []) (0 ∷ 0 ∷ []) (3 ∷ 0 ∷ []) 5 [] ∷
-    -- "One lot, worths 4 and 4: four rounds, owner 1, payments 4, 0."
+    -- rule 7.6: one lot, worths of 4 and 4
     sold 2 1 ((4 ∷ []) ∷ (4 ∷ []) ∷ []) 8
     (3 ∷ 3 ∷ 3 ∷ 3 ∷ []) ((4 ∷ []) ∷ (4 ∷ []) ∷ [])
     (1 ∷ []) (0 ∷ 0 ∷ []) (4 ∷ 0 ∷ []) 4 ((2 ∷ []) ∷ []) ∷
-    -- "One buyer, one lot, worth 7: no round, owner 1, payment 0; the record must still have 7 bytes."
+    -- rule 7.7: a sole buyer, with 7 bytes of record and with 6
     sold 1 1 ((7 ∷ []) ∷ []) 7
     [] ((0 ∷ []) ∷ [])
     (1 ∷ []) (0 ∷ []) (0 ∷ []) 7 [] ∷
     tooShort 1 1 ((7 ∷ []) ∷ []) 6
     (1 ∷ []) (0 ∷ []) 7 [] ∷
-    -- "One lot, two worths of 0: no round, owner 0."
+    -- rule 7.8: one lot, worth 0 to two buyers
     sold 2 1 ((0 ∷ []) ∷ (0 ∷ []) ∷ []) 0
     [] ((0 ∷ []) ∷ (0 ∷ []) ∷ [])
     (0 ∷ []) (0 ∷ 0 ∷ []) (0 ∷ 0 ∷ []) 0 ((1 ∷ []) ∷ (2 ∷ []) ∷ []) ∷
-    -- "12 bytes: 1." "A sole good first line, 1 and 1: 5."
+    -- rule 7.9: twelve bytes; rule 7.10: a first line alone
     refuses (take 12 (sheetBy 2 2 ((2 ∷ 0 ∷ 2 ∷ []) ∷ (0 ∷ 1 ∷ 3 ∷ []) ∷ []))) 1 0 ∷
     refuses (sheetBy 1 1 []) 5 0 ∷
-    -- "Two buyers, two lots, first line of worths 4, 0, 3: 8 at offset 25."
+    -- rule 7.12: worths that fall
     refuses (sheetBy 2 2 ((4 ∷ 0 ∷ 3 ∷ []) ∷ (0 ∷ 1 ∷ 3 ∷ []) ∷ [])) 8 25 ∷
-    -- "10,000 gives 7. A worth field "    03" gives 6; in the first line it gives 2."
+    -- rule 7.13: a worth of 10,000; rule 7.14: "    03" for a worth, and in the first line
     refuses (sheetBy 1 1 ((10000 ∷ []) ∷ [])) 7 13 ∷
     refuses (set (sheetBy 1 1 ((3 ∷ []) ∷ [])) 17 48) 6 13 ∷
     refuses (set (sheetBy 3 1 ((3 ∷ []) ∷ (3 ∷ []) ∷ (3 ∷ []) ∷ [])) 4 48) 2 0 ∷

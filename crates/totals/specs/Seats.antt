@@ -5,7 +5,7 @@ use lib.Dec.{ltb}
 use Rattle.theory.specs.Sums.{when}
 use Rattle.theory.specs.Lists.{tabulate}
 
--- place k is buyer k + 1's; "those of absent buyers are 0"
+-- place k is buyer k + 1's; absent buyers have 0 (rule 5.4)
 abbrev pub seat : ℕ → (ℕ → ℕ) → ℕ → ℕ
 seat m f k = when (ltb k m) (f (suc k))
 

@@ -10,7 +10,7 @@ use Rattle.theory.specs.Markets.{total}
 use Rattle.owners.specs.Owners.{allocations, zeroFirst, lacks, market, single}
 use Rattle.owners.specs.Prices.{plain, price}
 
--- "The economies are all buyers together, and all buyers but one": economy 0, and economy e without buyer e
+-- rule 4.4: economy 0 has all buyers, and economy e all but buyer e
 abbrev pub economy : ℕ → ℕ → ℕ → List (List ℕ)
 economy m n zero = allocations (zeroFirst m) n
 economy m n (suc e) = keep (lacks (suc e)) (allocations (zeroFirst m) n)

@@ -23,7 +23,7 @@ branch m pre k = withOwners pre (allocations (zeroFirst m) k)
 abbrev pub rest : ℕ → List ℕ → ℕ → ℕ → List (List ℕ)
 rest m pre o k = withOwners pre (spread (upTo (m + 1 - o) o) (allocations (zeroFirst m) k))
 
--- "The owner list is a value of four places; places past n hold 0"
+-- rule 1.8: four places, with 0 in those past the last lot
 abbrev pub four : List ℕ → List ℕ
 four a = a ++ replicate (4 - length a) 0
 

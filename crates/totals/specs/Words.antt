@@ -9,11 +9,11 @@ use Rattle.sheet.specs.Sheets.{Sheet}
 use Rattle.totals.specs.Totals as totals
 
 module _ (w : Sheet) where
-  -- buyer i's worth (valuation) of a bundle, buyers from 1; "the empty bundle is worth 0"
+  -- buyer i's worth (valuation) of a bundle, buyers from 1; that of the empty one is 0 (rule 1.4)
   abbrev pub worthOf : Table
   worthOf i s = singles.worth (w .worths) i s
 
-  -- "The list of all allocations of n lots is built lot by lot", lower owner first
+  -- all allocations, in order (rules 1.9 and 1.10)
   abbrev pub allocations : List (List ℕ)
   allocations = owners.allocations (owners.zeroFirst (w .buyers)) (w .lots)
 
@@ -25,10 +25,10 @@ module _ (w : Sheet) where
   abbrev pub economy : ℕ → List (List ℕ)
   economy e = totals.economy (w .buyers) (w .lots) e
 
-  -- "An allocation's total is the sum of the buyers' worths, as the sheet has them, for their bundles."
+  -- an allocation's total (rule 5.7)
   abbrev pub totalOf : List ℕ → ℕ
   totalOf a = total market worthOf a
 
-  -- the greatest total of an economy; "The greatest total without i is taken over the allocations that give i nothing."
+  -- the greatest total of an economy: of all for 0, or without a buyer (rule 5.8)
   abbrev pub greatestWithout : ℕ → ℕ
   greatestWithout e = most totalOf (economy e)

@@ -7,10 +7,10 @@ use Rattle.sheet.specs.Sheets.{Sheet}
 use Rattle.totals.specs.Words.{worthOf, allocations, market, totalOf, greatestWithout}
 
 module _ (w : Sheet) where
-  -- "Take the first owner list of greatest total worth T, in the order of owner lists"
+  -- rule 5.9: the first list of greatest total
   unfoldable pub directOwners : List ℕ
   directOwners = first (λ a. eqb (totalOf w a) (greatestWithout w 0)) [] (allocations w)
 
-  -- "Buyer i pays the greatest total without i, less T, plus i's own worth in the list." Nothing is cut off: demand 3 has the payment as an equation.
+  -- rule 5.10: what buyer i pays. Nothing is cut off: demand 3 has the payment as an equation.
   unfoldable pub directPayment : ℕ → ℕ
   directPayment i = greatestWithout w i + worthOf w i (market w .holds directOwners i) - greatestWithout w 0

@@ -47,7 +47,7 @@ fn first_of_total(
     }
 }
 
-// "The first owner list of greatest total worth T", which is `top`. There is one.
+// The first owner list of greatest total, which is `top` (rule 5.9). There is one.
 pub fn owners_of(worths: &[u16; 96], buyers: usize, lots: usize, top: u32) -> [u8; 4]
     requires { ⌜ (buyers ≤ 6) × (lots ≤ 4) × (top ≡ greatestWithout (asSheet buyers lots (now worths)) 0) ⌝ }
     ensures { λ r. ⌜ r ≡ four (directOwners (asSheet buyers lots (now (worths .entry)))) ⌝ }
@@ -56,7 +56,7 @@ pub fn owners_of(worths: &[u16; 96], buyers: usize, lots: usize, top: u32) -> [u
     f.owners
 }
 
-// "Buyer i pays the greatest total without i, less T, plus i's own worth in the list"; place k is buyer k + 1's.
+// What a buyer pays (rule 5.10); place k is buyer k + 1's.
 fn payment_at(
     worths: &[u16; 96],
     buyers: usize,

@@ -6,8 +6,8 @@ use std::hint::black_box;
 use std::time::Instant;
 
 use comparison::generator::{bytes_of, Generator};
-use comparison::library;
 use comparison::reckoning::sheet::{read_sheet, MOST_BUYERS, MOST_LOTS};
+use hokewhuni::raw;
 
 const SEED: u64 = 1;
 const REPETITIONS: usize = 51;
@@ -16,12 +16,12 @@ const READINGS: u32 = 20_000;
 fn main() {
     let sheet = Generator::new(SEED).monotone(MOST_BUYERS, MOST_LOTS);
     let bytes = bytes_of(&sheet);
-    assert_eq!(library::read_sheet(&bytes).number, 0);
+    assert_eq!(raw::read_sheet(&bytes).number, 0);
     assert_eq!(read_sheet(&bytes), Ok(sheet));
 
     let (mut library, mut rust) = (Vec::new(), Vec::new());
     for _ in 0..REPETITIONS {
-        library.push(nanoseconds(|| library::read_sheet(black_box(&bytes))));
+        library.push(nanoseconds(|| raw::read_sheet(black_box(&bytes))));
         rust.push(nanoseconds(|| read_sheet(black_box(&bytes))));
     }
     let (library, rust) = (median(library), median(rust));

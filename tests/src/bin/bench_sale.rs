@@ -10,9 +10,9 @@ use std::time::{Duration, Instant};
 
 use comparison::generator::{bytes_of, Generator};
 use comparison::halves::conclude;
-use comparison::library;
 use comparison::reckoning::sale::{record_needed, run_sale};
 use comparison::tally::Tally;
+use hokewhuni::raw;
 
 const SEED: u64 = 1;
 
@@ -37,7 +37,7 @@ fn time() -> ExitCode {
     let sheet = Generator::new(SEED).full();
     let (bytes, needed) = (bytes_of(&sheet), record_needed(&sheet));
     let mut records = [vec![0; needed], vec![0; needed]];
-    let (answer, library) = timed(|| library::run_sale(&bytes, &mut records[0]));
+    let (answer, library) = timed(|| raw::run_sale(&bytes, &mut records[0]));
     let (sale, rust) = timed(|| run_sale(&bytes, &mut records[1]));
     let payments = sale.map(|sale| sale.closing.payments);
     if records[0] != records[1] || payments != Ok(answer.payments) {

@@ -1,5 +1,6 @@
 //! Checks the names of crates/ and of the documents, and says what is wrong with them, a line for
-//! each: what is named and not used, what the page of the claim rests on, what entries require.
+//! each: what is named and not used, what the page of the claim rests on, what entries require, what
+//! the rules cite and who cites them.
 
 #![forbid(unsafe_code)]
 

@@ -1,5 +1,5 @@
-//! The check of names: what crates/ names and does not use, what the entries require, and what the
-//! page of the claim takes from elsewhere.
+//! The check of names: what crates/ names and does not use, what the entries require, what the page
+//! of the claim takes from elsewhere, and what the rules and the list of theorems name.
 
 use std::path::Path;
 use std::{fs, io};
@@ -8,10 +8,13 @@ use entries::Entries;
 use functions::functions;
 
 mod antt;
+mod cited;
 mod entries;
 mod functions;
 mod origin;
 mod page;
+mod proved;
+mod rules;
 mod sources;
 mod unused;
 
@@ -35,5 +38,7 @@ pub fn check(root: &Path) -> io::Result<Found> {
     };
     entries.check(&sources, &mut found);
     page::check(&sources, &entries.words(&sources), &mut found);
+    rules::check(root, &sources::collect_texts(root)?, &mut found)?;
+    proved::check(root, &mut found)?;
     Ok(found)
 }

@@ -9,7 +9,7 @@ use super::origin::{named, origin, Name, Origin, OURS};
 use super::sources::{code, find, is_used, words, Source};
 use super::Found;
 
-const PAGE: &str = "crates/claim/specs/Claim.antt";
+pub const PAGE: &str = "crates/claim/specs/Claim.antt";
 
 /// The most lines that it may have.
 const MOST_LINES: usize = 320;

@@ -32,7 +32,7 @@ pub fn compile(source: &str) -> Result<PathBuf, String> {
     }
 }
 
-/// The static library, from where this package's own build takes it.
+/// The static library, from where the Rust crate's build takes it in the repository.
 fn library() -> PathBuf {
     let folder = match env::var_os("HOKEWHUNI_LIB") {
         Some(folder) => PathBuf::from(folder),

@@ -9,7 +9,7 @@ use crate::process::run_from;
 use crate::reckoning::print::print_sale;
 use crate::tally::Tally;
 
-/// There are at least this many: the sales of document 01, the longest sheet, and one byte more.
+/// There are at least this many: the sales of the rules, the longest sheet, and one byte more.
 const LEAST: usize = 18;
 
 /// A sheet and its printed sale.
@@ -17,6 +17,18 @@ pub struct Example {
     pub path: PathBuf,
     pub sheet: Vec<u8>,
     pub sale: Vec<u8>,
+}
+
+impl Example {
+    /// A settled sale's print begins with a field of 0.
+    pub fn is_settled(&self) -> bool {
+        self.sale.starts_with(b"     0")
+    }
+
+    /// The status of what prints the sale: 0 if it is settled, 1 if it is refused.
+    pub fn status(&self) -> i32 {
+        (!self.is_settled()).into()
+    }
 }
 
 pub fn compare(tally: &mut Tally) {

@@ -1,13 +1,14 @@
-//! The C header: a C program prints every number of every answer, and the declarations in
-//! `library` have to give the same.
+//! The C header: a C program prints every number of every answer, and the declarations of the Rust
+//! crate have to give the same.
 
 use std::fmt::Display;
 use std::process::Command;
 
+use hokewhuni::raw;
+
 use super::compiling::compile;
 use super::inputs::KINDS;
 use crate::generator::Generator;
-use crate::library;
 use crate::process::run;
 use crate::reckoning::print::{print_sale, LONGEST_RECORD, MOST_READ};
 use crate::reckoning::sheet::FIRST_LINE;
@@ -20,7 +21,7 @@ const DRAWN: usize = 10;
 const BUYER: u32 = 2;
 
 /// A printed sale has at most a line of four fields, four of two, and six of four.
-const LONGEST_PRINT: usize = 25 + 4 * 13 + 6 * 25;
+pub(super) const LONGEST_PRINT: usize = 25 + 4 * 13 + 6 * 25;
 
 pub fn compare(tally: &mut Tally, generator: &mut Generator) {
     tally.group("the C header", |tally| {
@@ -43,12 +44,12 @@ pub fn compare(tally: &mut Tally, generator: &mut Generator) {
 /// The constants, and every number of each entry's answer, a line for each; then the recorded sets
 /// and the print.
 fn answers(sheet: &[u8]) -> Vec<u8> {
-    let field = library::read_field(sheet, FIRST_LINE);
-    let read = library::read_sheet(sheet);
-    let worths = library::read_worths(sheet);
+    let field = raw::read_field(sheet, FIRST_LINE);
+    let read = raw::read_sheet(sheet);
+    let worths = raw::read_worths(sheet);
     let mut record = vec![0; LONGEST_RECORD];
-    let sale = library::run_sale(sheet, &mut record);
-    let direct = library::direct_way(sheet);
+    let sale = raw::run_sale(sheet, &mut record);
+    let direct = raw::direct_way(sheet);
     let size = |number: u8, place: u32, buyers: u8, lots: u8| {
         each(&[number.into(), place, buyers.into(), lots.into()])
     };
@@ -73,7 +74,7 @@ fn answers(sheet: &[u8]) -> Vec<u8> {
 
 /// What the buyer demands at these prices.
 fn demand(sheet: &[u8], prices: &[u16; 96]) -> String {
-    let demand = library::buyer_demand(sheet, BUYER, prices);
+    let demand = raw::buyer_demand(sheet, BUYER, prices);
     let (bundles, keen) = (demand.bundles.into(), demand.keen.into());
     each(&[demand.number.into(), demand.place, bundles, keen])
 }

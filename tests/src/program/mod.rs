@@ -1,22 +1,33 @@
-//! The tests of the program that prints a sale, as a process; of the C header and example, which
-//! are compiled for it; and of the teacher's page.
+//! The tests of the program that prints a sale, as a process; of the command that builds, runs and
+//! installs it; of the C header and example, which are compiled for it; of the Rust crate, which is
+//! built for it; and of the teacher's page.
 
 use std::env;
 use std::path::{Path, PathBuf};
 use std::process::Command;
+use std::time::Duration;
 
 use crate::generator::Generator;
 use crate::tally::Tally;
 
+mod building;
+mod command;
 mod compiling;
 mod examples;
+mod folder;
 mod header;
 mod inputs;
+mod installing;
+mod line_ends;
 mod memory;
 mod office;
 mod pieces;
+mod rust;
 mod streams;
 mod teacher;
+
+/// Building and proving may take this long.
+const BUILDING: Duration = Duration::from_secs(1_800);
 
 /// Runs the groups of random inputs.
 pub fn compare_inputs(tally: &mut Tally, generator: &mut Generator) {
@@ -32,6 +43,11 @@ pub fn compare(tally: &mut Tally, generator: &mut Generator) {
     office::compare(tally);
     header::compare(tally, generator);
     memory::compare(tally, generator);
+    rust::compare(tally, generator);
+    building::compare(tally);
+    installing::compare(tally);
+    command::compare(tally, generator);
+    line_ends::compare(tally);
 }
 
 /// A path in the repository.

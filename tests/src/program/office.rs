@@ -11,9 +11,6 @@ use super::memory::valgrind;
 use crate::process::run;
 use crate::tally::Tally;
 
-/// What a settled sale's print begins with: a field of 0.
-const SETTLED: &[u8] = b"     0";
-
 pub fn compare(tally: &mut Tally) {
     tally.group("the C example", |tally| {
         let compiled = compile("examples/office.c").map(Some);
@@ -25,9 +22,8 @@ pub fn compare(tally: &mut Tally) {
         for example in &examples {
             sell(tally, Command::new(&office), example);
         }
-        let settled = |example: &&Example| example.sale.starts_with(SETTLED);
-        let first = examples.iter().find(settled);
-        let refused = examples.iter().find(|example| !settled(example));
+        let first = examples.iter().find(|example| example.is_settled());
+        let refused = examples.iter().find(|example| !example.is_settled());
         for example in first.into_iter().chain(refused) {
             let mut command = valgrind();
             command.arg(&office);

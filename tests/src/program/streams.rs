@@ -9,7 +9,7 @@ use super::{in_repository, program, program_path};
 use crate::process::{run, run_from, run_into, run_unread, Ended};
 use crate::tally::Tally;
 
-/// "Has it 13 bytes or more? No: 1."
+/// What is printed of fewer than 13 bytes (rule 3.1).
 const NO_SHEET: &[u8] = b"     1     0\n";
 
 /// A sheet that is settled and one that is refused.

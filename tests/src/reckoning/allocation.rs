@@ -1,13 +1,13 @@
-//! Owner lists, sets of buyers, and the economies in which lots are dealt out. Written from
-//! document 01 alone; the comments quote the sentences that are met.
+//! Owner lists, sets of buyers, and the economies in which lots are dealt out. Written from the
+//! rules alone (docs/RULES.md), never from the Rattle code; the comments name the rules that are
+//! met.
 
 use super::sheet::{MOST_BUYERS, MOST_LOTS};
 
-/// "An owner list gives each lot a buyer's number, or 0 for unsold. The owner list is a value of
-/// four places; places past n hold 0."
+/// The owner of each lot, 0 for a lot that is unsold or absent (rule 1.8).
 pub type Owners = [u8; MOST_LOTS];
 
-/// A set of buyers: "Its number is the sum of 2^(i − 1) over its buyers."
+/// A set of buyers, as its number (rule 4.9).
 pub type Buyers = u8;
 
 /// The set of one buyer.
@@ -28,7 +28,7 @@ pub struct Allocation {
 }
 
 impl Allocation {
-    /// "A buyer's bundle is what it owns there."
+    /// What a buyer owns (rule 5.6).
     pub fn bundle(&self, buyer: usize) -> usize {
         self.bundles[buyer - 1].into()
     }
@@ -44,8 +44,7 @@ impl Allocation {
     }
 }
 
-/// "The list of all allocations of n lots is built lot by lot, from the lists for one lot fewer.
-/// One list comes before another if it has the lower owner at the first lot where they differ."
+/// All allocations of some lots, from those of one lot fewer (rule 1.9), in the order of rule 1.10.
 pub fn allocations(buyers: usize, lots: usize) -> Vec<Allocation> {
     let mut lists = vec![Allocation::default()];
     for lot in 1..=lots {
@@ -62,8 +61,7 @@ pub struct Economy {
 }
 
 impl Economy {
-    /// "An allocation is an owner list for the sheet's lots in which each owner is 0 or one of its
-    /// buyers."
+    /// The allocations whose owners are present or nobody (rules 4.4 and 5.6).
     fn new(present: Buyers, lists: &[Allocation]) -> Self {
         let may_own = |owner: u8| owner == 0 || includes(present, only(owner.into()));
         let among_present = |&at: &usize| lists[at].owners.into_iter().all(may_own);
@@ -74,9 +72,7 @@ impl Economy {
     }
 }
 
-/// "The economies are all buyers together, and all buyers but one, for each one. With m = 1 the
-/// second kind has no buyer and one allocation, nothing sold." The one without buyer i is at place
-/// i.
+/// The economies (rule 4.4): that of all buyers at place 0, and the one without buyer i at place i.
 pub fn economies(buyers: usize, lists: &[Allocation]) -> Vec<Economy> {
     let all: Buyers = (1..=buyers).map(only).sum();
     let mut economies = vec![Economy::new(all, lists)];

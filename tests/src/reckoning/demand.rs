@@ -1,12 +1,13 @@
-//! What a buyer demands at given prices: payoffs, the demand set, who is keen. Written from
-//! document 01 alone; the comments quote the sentences that are met.
+//! What a buyer demands at given prices: payoffs, the demand set, who is keen. Written from the
+//! rules alone (docs/RULES.md), never from the Rattle code; the comments name the rules that are
+//! met.
 
 use super::sheet::{bundles, read_sheet, refuse, Refusal, Sheet, MOST_BUNDLES, MOST_BUYERS};
 
-/// "There are ninety-six prices, sixteen to a buyer." They stand as worths do in their table.
+/// Ninety-six prices (rule 1.6). They stand as worths do in their table.
 pub type Prices = [[u16; MOST_BUNDLES]; MOST_BUYERS];
 
-/// A buyer's demand set, "answered as the sum of 2^S over its bundles S", and its greatest payoff.
+/// A buyer's demand set as one number (rule 4.2), and its greatest payoff.
 #[derive(Clone, Debug, PartialEq, Eq)]
 pub struct Demand {
     pub bundles: u16,
@@ -14,7 +15,7 @@ pub struct Demand {
 }
 
 impl Demand {
-    /// "A buyer is keen if that greatest payoff is above 0."
+    /// Whether the buyer is keen (rule 4.3).
     pub fn keen(&self) -> bool {
         self.payoff > 0
     }
@@ -25,8 +26,7 @@ impl Demand {
     }
 }
 
-/// The answer to a demand question. Question 10: "Only for a demand answer: is the buyer asked
-/// about 1 to m?"
+/// The answer to a demand question, with question 10 (rule 3.10).
 pub fn buyer_demand(sheet: &[u8], buyer: u32, prices: &Prices) -> Result<Demand, Refusal> {
     let sheet = read_sheet(sheet)?;
     let buyer = buyer as usize;
@@ -36,7 +36,7 @@ pub fn buyer_demand(sheet: &[u8], buyer: u32, prices: &Prices) -> Result<Demand,
     Ok(demand(&sheet, prices, buyer))
 }
 
-/// "The demand set holds all bundles of greatest payoff, the empty one included."
+/// The bundles of greatest payoff, among all bundles and the empty one (rule 4.2).
 pub fn demand(sheet: &Sheet, prices: &Prices, buyer: usize) -> Demand {
     let mut demand = Demand {
         bundles: 0,
@@ -54,14 +54,12 @@ pub fn demand(sheet: &Sheet, prices: &Prices, buyer: usize) -> Demand {
     demand
 }
 
-/// "A buyer's payoff from a bundle is worth less price, and may be negative at prices brought from
-/// outside."
+/// Worth minus price, which may be below 0 (rule 4.1).
 fn payoff(sheet: &Sheet, prices: &Prices, buyer: usize, bundle: usize) -> i64 {
     i64::from(sheet.worths[buyer - 1][bundle]) - i64::from(price(prices, buyer, bundle))
 }
 
-/// "A price is 0 to 65,535 and belongs to one buyer and one bundle; the empty bundle always costs
-/// 0."
+/// A buyer's price for a bundle, 0 for the empty one (rule 1.5).
 pub fn price(prices: &Prices, buyer: usize, bundle: usize) -> u16 {
     match bundle {
         0 => 0,

@@ -1,4 +1,6 @@
-//! Document 01 reckoned in plain Rust, without sight of the library.
+//! The rules of docs/RULES.md, reckoned in plain Rust without sight of the library. All of it is
+//! written from the rules alone, never from the Rattle code; the comments name the rules that are
+//! met.
 
 pub mod allocation;
 pub mod demand;

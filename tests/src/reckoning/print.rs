@@ -1,16 +1,17 @@
-//! The printed sale. Written from document 01 alone; the comments quote the sentences that are met.
+//! The printed sale. Written from the rules alone (docs/RULES.md), never from the Rattle code; the
+//! comments name the rules that are met.
 
 use super::sale::{run_sale, Sale};
 use super::sheet::{Refusal, GREATEST_WORTH, LINE_END, MOST_BUYERS};
 
-/// "The program reads up to 560 bytes of standard input as the sheet."
+/// The most bytes of its input that the program takes (rule 6.1).
 pub const MOST_READ: usize = 560;
 
 /// The greatest of question 9's sums: six buyers, each with the greatest worth for all lots
 /// together.
 pub const LONGEST_RECORD: usize = MOST_BUYERS * GREATEST_WORTH as usize;
 
-/// What the program prints of its input. Its record is long enough for every sheet.
+/// What the program prints of its input. Its record is long enough for every sheet (rule 6.7).
 pub fn print_sale(input: &[u8]) -> Vec<u8> {
     let sheet = &input[..input.len().min(MOST_READ)];
     printed(&run_sale(sheet, &mut vec![0; LONGEST_RECORD]))
@@ -24,8 +25,7 @@ pub fn printed(sale: &Result<Sale, Refusal>) -> Vec<u8> {
     }
 }
 
-/// "Settled: first a line of 0, buyers, lots, rounds; a line per lot of lot and owner; a line per
-/// buyer of buyer, price of its bundle, discount, payment."
+/// The lines of a settled sale (rule 6.3).
 fn settled(sale: &Sale) -> Vec<u8> {
     let closing = &sale.closing;
     let mut lines = vec![line(&[0, sale.buyers, sale.lots, sale.rounds])];
@@ -40,13 +40,12 @@ fn settled(sale: &Sale) -> Vec<u8> {
     lines.concat()
 }
 
-/// "Refused: one line of number and place."
+/// The line of a refusal (rule 6.4).
 fn refused(refusal: &Refusal) -> Vec<u8> {
     line(&[refusal.number.into(), refusal.place])
 }
 
-/// "It prints fields of six columns." "A number right-justified after blanks", and "every line ends
-/// with byte 10".
+/// A line of fields of six columns (rule 6.2).
 fn line(numbers: &[usize]) -> Vec<u8> {
     let fields = numbers.iter().map(|number| format!("{number:>6}"));
     let mut line = fields.collect::<String>().into_bytes();

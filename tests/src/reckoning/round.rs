@@ -1,5 +1,6 @@
 //! A round of the sale: takings and revenue, the allocations that fit, the undersupplied sets and
-//! the raise. Written from document 01 alone; the comments quote the sentences that are met.
+//! the raise. Written from the rules alone (docs/RULES.md), never from the Rattle code; the
+//! comments name the rules that are met.
 
 use super::allocation::{allocations, economies, includes, only, Allocation, Buyers, Economy};
 use super::demand::{demand, price, Demand, Prices};
@@ -65,22 +66,21 @@ impl<'a> Round<'a> {
         self.demands.iter().map(|demand| demand.payoff).sum()
     }
 
-    /// The keen buyers, B⁺.
+    /// The keen buyers, B⁺ (rule 4.3).
     pub fn keen(&self) -> Buyers {
         let demands = (1..).zip(&self.demands);
         let keen = demands.filter(|(_, demand)| demand.keen());
         keen.map(|(buyer, _)| only(buyer)).sum()
     }
 
-    /// "An economy's revenue is the greatest sum of prices over its allocations."
+    /// An economy's revenue (rule 4.5).
     pub fn revenue(&self, economy: &Economy) -> u32 {
         let places = economy.allocations.iter();
         let takings = places.map(|&at| self.outcomes[at].takings);
         takings.max().expect("nothing sold is an allocation")
     }
 
-    /// "An allocation fits if it reaches that revenue and gives each buyer a demanded bundle or the
-    /// empty one." The places of those that fit, L*.
+    /// The places of the allocations that fit, L* (rule 4.6).
     pub fn fitting<'b>(&'b self, economy: &'b Economy) -> impl Iterator<Item = usize> + 'b {
         let revenue = self.revenue(economy);
         let places = economy.allocations.iter().copied();
@@ -95,7 +95,7 @@ impl<'a> Round<'a> {
         includes(self.outcomes[at].served, buyers)
     }
 
-    /// "A round takes the undersupplied set of lowest number." None if no set is undersupplied.
+    /// The set that the round takes (rule 4.10). None if no set is undersupplied.
     pub fn lowest_undersupplied(&self) -> Option<Buyers> {
         let economies = self.market.economies.iter();
         let supplies: Vec<Supply> = economies.map(|economy| self.supply(economy)).collect();
@@ -119,7 +119,7 @@ impl<'a> Round<'a> {
         }
     }
 
-    /// "Every price of a member for a bundle it demands rises by 1."
+    /// The raise of a set's prices (rule 4.11).
     pub fn raise(&self, set: Buyers, prices: &mut Prices) {
         for (buyer, demand) in (1..).zip(&self.demands) {
             if !includes(set, only(buyer)) {
@@ -167,8 +167,7 @@ struct Supply {
     served: Vec<Buyers>,
 }
 
-/// "A set of keen buyers, the empty set too, is undersupplied if in some economy no fitting
-/// allocation gives every member present a demanded bundle."
+/// Whether a set of keen buyers is undersupplied (rule 4.7).
 fn undersupplied(set: Buyers, supplies: &[Supply]) -> bool {
     supplies.iter().any(|supply| {
         let present = set & supply.present;

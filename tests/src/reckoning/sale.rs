@@ -1,13 +1,12 @@
-//! A whole sale: question 9, the rounds with their record, and the closing. Written from document
-//! 01 alone; the comments quote the sentences that are met.
+//! A whole sale: question 9, the rounds with their record, and the closing. Written from the rules
+//! alone (docs/RULES.md), never from the Rattle code; the comments name the rules that are met.
 
 use super::allocation::Owners;
 use super::demand::{price, Prices};
 use super::round::{Market, Round};
 use super::sheet::{bundles, read_sheet, refuse, Refusal, Sheet, MOST_BUYERS};
 
-/// "A sale answers buyers, lots, rounds, prices, owners, discounts and payments; those of absent
-/// buyers are 0."
+/// What a settled sale answers (rule 5.4), and what else is known of it.
 #[derive(Clone, Debug, PartialEq, Eq)]
 pub struct Sale {
     pub buyers: usize,
@@ -17,7 +16,7 @@ pub struct Sale {
     pub closing: Closing,
     /// Question 9's sum.
     pub record_needed: usize,
-    /// "One raise for each member" of each round's set.
+    /// One raise for each member of each round's set (rule 4.11).
     pub raises: u32,
     /// The sum of the buyers' greatest payoffs at the last prices.
     pub payoffs: i64,
@@ -33,8 +32,8 @@ pub struct Closing {
     pub payments: [u32; MOST_BUYERS],
 }
 
-/// The sale of a sheet. "The set's number is the next byte of the record", and "bytes after the
-/// last round keep their old values". After a refusal "the record keeps all its bytes".
+/// The sale of a sheet. Each round writes a byte of the record, and the others stay (rule 4.12);
+/// after a refusal all do (rule 3.14).
 pub fn run_sale(sheet: &[u8], record: &mut [u8]) -> Result<Sale, Refusal> {
     let sheet = read_sheet(sheet)?;
     let record_needed = record_needed(&sheet);
@@ -65,16 +64,14 @@ pub fn run_sale(sheet: &[u8], record: &mut [u8]) -> Result<Sale, Refusal> {
     }
 }
 
-/// Question 9's "sum, over buyers, of the worth of all lots together".
+/// Question 9's sum (rule 3.9).
 pub fn record_needed(sheet: &Sheet) -> usize {
     let rows = &sheet.worths[..sheet.buyers];
     let worths = rows.iter().map(|row| row[bundles(sheet.lots)]);
     worths.map(usize::from).sum()
 }
 
-/// "Owners: the first list that fits among all buyers and gives every keen buyer a demanded bundle.
-/// Buyer i's discount is the revenue of all buyers less the revenue without i. The payment is the
-/// price of i's bundle less the discount."
+/// The owners (rule 5.1), discounts (rule 5.2) and payments (rule 5.3).
 fn close(market: &Market, round: &Round, prices: &Prices) -> Closing {
     let all = &market.economies[0];
     let first = round

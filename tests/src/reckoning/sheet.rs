@@ -1,21 +1,22 @@
 //! The reader of a lot sheet: fields, the questions put to a sheet, and the table of worths.
-//! Written from document 01 alone; the comments quote the sentences that are met.
+//! Written from the rules alone (docs/RULES.md), never from the Rattle code; the comments name the
+//! rules that are met.
 
-/// "Every line ends with byte 10."
+/// The end of a line (rule 2.1).
 pub const LINE_END: u8 = 10;
-/// "Every field is six columns wide."
+/// The columns of a field (rule 2.2).
 pub const FIELD: usize = 6;
-/// "The first line has two fields, buyers and lots."
+/// The bytes of the first line (rule 2.6).
 pub const FIRST_LINE: usize = 2 * FIELD + 1;
-/// "Lots are numbered 1 to n, buyers 1 to m, with m from 1 to 6 and n from 1 to 4."
+/// There are at most so many buyers and lots (rule 1.2).
 pub const MOST_BUYERS: usize = 6;
 pub const MOST_LOTS: usize = 4;
 /// The bundles of four lots, the empty one included.
 pub const MOST_BUNDLES: usize = 1 << MOST_LOTS;
-/// "A worth is 0 to 9,999; the empty bundle is worth 0."
+/// The greatest worth (rule 1.4).
 pub const GREATEST_WORTH: u16 = 9_999;
 
-/// "Reading one field gives the number or its fault, together with the next column."
+/// What reading a field answers (rule 2.4).
 #[derive(Clone, Debug, PartialEq, Eq)]
 pub struct Field {
     /// The number, or the offset of the faulty field.
@@ -23,8 +24,7 @@ pub struct Field {
     pub next: usize,
 }
 
-/// "With 6, 7 and 8 the place is the offset of the first faulty field's first byte, or of the
-/// faulty line end; otherwise it is 0."
+/// A question that got a no, and the place (rules 3.11 and 3.13).
 #[derive(Clone, Debug, PartialEq, Eq)]
 pub struct Refusal {
     pub number: u8,
@@ -32,7 +32,7 @@ pub struct Refusal {
 }
 
 /// Worths (valuations): a row for each buyer, with the worth of a bundle at the bundle's number.
-/// The empty bundle, absent bundles and absent buyers have 0.
+/// The empty bundle, absent bundles and absent buyers have 0 (rule 1.7).
 pub type Table = [[u16; MOST_BUNDLES]; MOST_BUYERS];
 
 /// What an accepted sheet says.
@@ -43,11 +43,10 @@ pub struct Sheet {
     pub worths: Table,
 }
 
-/// The answer to questions 1 to 8.
+/// The answer to questions 1 to 8 (rules 3.1 to 3.8).
 pub type Answer = Result<Sheet, Refusal>;
 
-/// "That column is six further on, also after a fault; with fewer than six bytes left the field is
-/// a fault and the next column is the sheet's length."
+/// The field at a column, and the next column (rule 2.5).
 pub fn read_field(sheet: &[u8], at: usize) -> Field {
     match sheet.get(at..).and_then(<[u8]>::first_chunk) {
         Some(columns) => Field {
@@ -61,7 +60,7 @@ pub fn read_field(sheet: &[u8], at: usize) -> Field {
     }
 }
 
-/// "A number right-justified after blanks, no zero in front of other digits, a lone 0 for zero."
+/// The number in six columns, if there is one (rules 2.2 and 2.3).
 fn read_number(columns: &[u8; FIELD]) -> Option<u32> {
     let blanks = columns.iter().take_while(|&&byte| byte == b' ').count();
     match &columns[blanks..] {
@@ -73,7 +72,7 @@ fn read_number(columns: &[u8; FIELD]) -> Option<u32> {
     }
 }
 
-/// The questions put to a sheet: "Asked in this order; the first "no" gives its number."
+/// The questions put to a sheet, in order, up to the first no (rule 3.11).
 pub fn read_sheet(sheet: &[u8]) -> Answer {
     let (buyers, lots) = read_first_line(sheet)?;
     if sheet.len() != length(buyers, lots) {
@@ -91,8 +90,7 @@ pub fn read_sheet(sheet: &[u8]) -> Answer {
     }
 }
 
-/// Questions 1 to 4: "Has it 13 bytes or more? Is the first line two good fields and a line end at
-/// offset 12? Is the number of buyers 1 to 6? Is the number of lots 1 to 4?"
+/// Questions 1 to 4 (rules 3.1 to 3.4): the numbers of buyers and lots.
 fn read_first_line(sheet: &[u8]) -> Result<(usize, usize), Refusal> {
     if sheet.len() < FIRST_LINE {
         return refuse(1, 0);
@@ -112,7 +110,7 @@ fn read_first_line(sheet: &[u8]) -> Result<(usize, usize), Refusal> {
     Ok((buyers, lots))
 }
 
-/// Question 6: "Are all later fields and line ends good?" The numbers of the fields, in order.
+/// Question 6 (rule 3.6): the numbers of the fields, in order.
 fn read_later_lines(sheet: &[u8], buyers: usize, lots: usize) -> Result<Vec<u32>, Refusal> {
     let bundles = bundles(lots);
     let mut numbers = Vec::with_capacity(buyers * bundles);
@@ -134,7 +132,7 @@ fn read_later_lines(sheet: &[u8], buyers: usize, lots: usize) -> Result<Vec<u32>
     Ok(numbers)
 }
 
-/// Question 7: "Is every worth at most 9,999?" The numbers set out as a table.
+/// Question 7 (rule 3.7): the numbers set out as a table.
 fn worths_in_range(numbers: &[u32], lots: usize) -> Result<Table, Refusal> {
     let mut worths = Table::default();
     for (row, line) in numbers.chunks(bundles(lots)).enumerate() {
@@ -148,9 +146,8 @@ fn worths_in_range(numbers: &[u32], lots: usize) -> Result<Table, Refusal> {
     Ok(worths)
 }
 
-/// Question 8: "Is every bundle of two or more lots worth at least as much as each bundle with one
-/// lot fewer?" The buyer and bundle of the first no. A sole lot's part is the empty bundle, and no
-/// worth is below 0.
+/// Question 8 (rule 3.8): the buyer and bundle of the first no. A sole lot's part is the empty
+/// bundle, and no worth is below 0.
 fn first_below_a_part(worths: &Table, buyers: usize, lots: usize) -> Option<(usize, usize)> {
     for buyer in 1..=buyers {
         let row = &worths[buyer - 1];
@@ -171,7 +168,7 @@ pub fn parts(bundle: usize) -> impl Iterator<Item = usize> {
         .map(move |lot| bundle - lot)
 }
 
-/// "Then each buyer has one line with the worths of bundles 1, 2, .. up to 2^n − 1."
+/// The bundles that have a worth in a line (rule 2.7).
 pub fn bundles(lots: usize) -> usize {
     (1 << lots) - 1
 }
@@ -181,7 +178,7 @@ pub fn line(lots: usize) -> usize {
     FIELD * bundles(lots) + 1
 }
 
-/// Question 5: "Is the length exactly 13 + m × (6 × (2^n − 1) + 1)?"
+/// The length that question 5 asks for (rule 3.5).
 pub fn length(buyers: usize, lots: usize) -> usize {
     FIRST_LINE + buyers * line(lots)
 }
@@ -191,7 +188,7 @@ pub fn place(lots: usize, buyer: usize, bundle: usize) -> usize {
     FIRST_LINE + (buyer - 1) * line(lots) + FIELD * (bundle - 1)
 }
 
-/// "A refusal returns its number and place."
+/// A refusal has a number and a place (rule 3.14).
 pub fn refuse<T>(number: u8, place: usize) -> Result<T, Refusal> {
     Err(Refusal { number, place })
 }

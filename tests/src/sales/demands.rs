@@ -17,7 +17,7 @@ const REFUSED: usize = 5_000;
 /// greatest payoff.
 type Row = [([u16; 3], u16, i64); 3];
 
-/// Table 4 of source document 000. At payoff 0 the empty bundle is demanded too.
+/// Table 4 of the paper. At payoff 0 the empty bundle is demanded too.
 const TABLE_4: [Row; 8] = [
     [([0, 0, 0], 10, 3), ([0, 0, 0], 12, 6), ([0, 0, 0], 8, 4)],
     [([1, 0, 1], 10, 2), ([0, 0, 0], 12, 6), ([0, 0, 1], 8, 3)],
@@ -124,8 +124,7 @@ fn asked(buyers: u32) -> impl Iterator<Item = u32> {
     (0..=buyers + 1).chain([7, 257, u32::MAX])
 }
 
-/// Chooses the entries that are read, or those that never are: "Entries for absent buyers, absent
-/// bundles and the empty bundle are never read, also not in prices brought from outside."
+/// Chooses the entries that are read, or those that never are (rule 1.7).
 fn choose(
     generator: &mut Generator,
     sheet: &Sheet,

@@ -1,5 +1,5 @@
-//! The direct way alone, which uses no prices and takes no record: the sheets of document 01,
-//! random sheets of every size with worths up to the greatest, and refused sheets.
+//! The direct way alone, which uses no prices and takes no record: the sheets of the rules, random
+//! sheets of every size with worths up to the greatest, and refused sheets.
 
 use crate::generator::{bytes_of, Generator};
 use crate::reckoning::sheet::Refusal;
@@ -15,7 +15,7 @@ const DRAWN: usize = 200_000;
 const REFUSED_DRAWN: usize = 20_000;
 
 pub fn compare(tally: &mut Tally, generator: &mut Generator) {
-    tally.group("direct way of document 01", document);
+    tally.group("direct way of the rules", document);
     tally.group("direct way of random sheets of every size", |tally| {
         for _ in 0..DRAWN {
             let (buyers, lots) = generator.size();
@@ -29,7 +29,7 @@ pub fn compare(tally: &mut Tally, generator: &mut Generator) {
     });
 }
 
-/// The sheets with the answers that document 01 names, or that follow from those by hand.
+/// The sheets with the answers that the rules name, or that follow from those by hand.
 fn document(tally: &mut Tally) {
     for settled in &SETTLED {
         tally.known_direct(settled.text.as_bytes(), &Ok(settled.direct()));

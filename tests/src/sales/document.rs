@@ -1,4 +1,4 @@
-//! The sales of document 01, with the answers that it names.
+//! The sales of the rules (sections 6 to 8), with the answers that are named there.
 
 use crate::generator::bytes_of;
 use crate::reckoning::direct::Direct;
@@ -7,7 +7,7 @@ use crate::reckoning::sheet::{bundles, Refusal, MOST_BUYERS, MOST_LOTS};
 use crate::sheets::document::{sheet_of, REFUSED};
 use crate::tally::{Tally, Told};
 
-/// The sheet of table 3 of source document 000.
+/// The sheet of table 3 of the paper.
 pub const TABLE_3: &str =
     "     3     2\n     3     0     3\n     0     6     6\n     0     2     4\n";
 
@@ -26,7 +26,7 @@ pub struct Settled {
 }
 
 pub const SETTLED: [Settled; 8] = [
-    // The printed sale.
+    // The example (rules 6.5, 7.2 and 7.3).
     Settled {
         text: "     2     2\n     2     0     2\n     0     1     3\n",
         record_needed: 5,
@@ -44,8 +44,8 @@ pub const SETTLED: [Settled; 8] = [
             "     2     0     0     0\n",
         ),
     },
-    // Table 3. Charging the last prices takes 2 and 4 instead of 0 and 2; stopping when all buyers
-    // together are supplied takes other payments.
+    // Table 3 (rule 7.4). Its payments show a sale that stops early (rule 8.1) or charges the last
+    // prices (rule 8.2).
     Settled {
         text: TABLE_3,
         record_needed: 13,
@@ -64,8 +64,8 @@ pub const SETTLED: [Settled; 8] = [
             "     3     0     0     0\n",
         ),
     },
-    // Reckoned by hand, for the economies that lack only a loser: buyers 2 and 3 lose, and leaving
-    // out the economy without buyer 2 records 3 5.
+    // Reckoned by hand, for the economies that lack none but a loser (rule 8.3): buyers 2 and 3
+    // lose, and leaving out the economy without buyer 2 records 3 5.
     Settled {
         text: "     3     2\n     0     0     2\n     0     1     1\n     1     0     1\n",
         record_needed: 4,
@@ -84,7 +84,7 @@ pub const SETTLED: [Settled; 8] = [
             "     3     0     0     0\n",
         ),
     },
-    // One lot, worths 5 and 3.
+    // Rule 7.5.
     Settled {
         text: "     2     1\n     5\n     3\n",
         record_needed: 8,
@@ -101,7 +101,7 @@ pub const SETTLED: [Settled; 8] = [
             "     2     0     0     0\n",
         ),
     },
-    // One lot, worths 4 and 4: four rounds.
+    // Rule 7.6.
     Settled {
         text: "     2     1\n     4\n     4\n",
         record_needed: 8,
@@ -118,7 +118,7 @@ pub const SETTLED: [Settled; 8] = [
             "     2     0     0     0\n",
         ),
     },
-    // One buyer, one lot, worth 7: no round, and the record must still have 7 bytes.
+    // Rule 7.7.
     Settled {
         text: "     1     1\n     7\n",
         record_needed: 7,
@@ -134,7 +134,7 @@ pub const SETTLED: [Settled; 8] = [
             "     1     0     0     0\n",
         ),
     },
-    // One lot, two worths of 0: no round. A buyer with payoff 0 is not keen.
+    // Rule 7.8; with payoff 0 nobody is keen (rule 8.4).
     Settled {
         text: "     2     1\n     0\n     0\n",
         record_needed: 0,
@@ -151,7 +151,7 @@ pub const SETTLED: [Settled; 8] = [
             "     2     0     0     0\n",
         ),
     },
-    // Worth 9,999 passes.
+    // The greatest worth (rule 7.13).
     Settled {
         text: "     1     1\n  9999\n",
         record_needed: 9_999,
@@ -176,7 +176,7 @@ const OLD: u8 = 0xee;
 const LONG: usize = 10_000;
 
 pub fn compare(tally: &mut Tally) {
-    tally.group("sales of document 01", |tally| {
+    tally.group("sales of the rules", |tally| {
         for settled in &SETTLED {
             settle(tally, settled);
         }
@@ -206,7 +206,7 @@ fn settle(tally: &mut Tally, settled: &Settled) {
     }
 }
 
-/// "Lengths 20 (one buyer, one lot) and 559 (six, four) can be accepted."
+/// The longest sheet that is accepted (rule 7.11).
 fn longest(tally: &mut Tally) {
     let row: Vec<u16> = (1..=bundles(MOST_LOTS) as u16).collect();
     let sheet = bytes_of(&sheet_of(MOST_LOTS, &[&row[..]; MOST_BUYERS]));

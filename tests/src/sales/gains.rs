@@ -1,6 +1,5 @@
 //! A search for a gain: pairs of sheets, with a buyer's true table and with another in its place.
-//! "Worth less payment, which may be negative, is from the first answer at least what it is from
-//! the second, with two sales and with two direct reckonings."
+//! By the true table the first answer brings it no less than the second (rule 5.15).
 
 use crate::generator::Generator;
 use crate::reckoning::sale::record_needed;

@@ -1,5 +1,5 @@
 //! Printed sales, in buffers of every length and with records of every kind. Bytes after the print
-//! keep their old values; where it has no room, all of them do.
+//! keep their old values; where it has no room, all of them do (rule 6.6).
 
 use crate::generator::{bytes_of, sizes, Generator};
 use crate::reckoning::print::LONGEST_RECORD;
@@ -32,7 +32,7 @@ const SPARE: usize = 300;
 const OLD: u8 = 0xee;
 
 pub fn compare(tally: &mut Tally, generator: &mut Generator) {
-    tally.group("printed sales of document 01", document);
+    tally.group("printed sales of the rules", document);
     tally.group("printed sales in buffers of every length", |tally| {
         each_size(tally, generator, DRAWN, |generator| {
             (0..=LONGEST)
@@ -65,7 +65,7 @@ pub fn compare(tally: &mut Tally, generator: &mut Generator) {
     });
 }
 
-/// The sales of document 01: settled, with a record one byte short, and refused.
+/// The sales of the rules: settled, with a record one byte short, and refused.
 fn document(tally: &mut Tally) {
     let buffer = [OLD; LONGEST];
     for settled in &SETTLED {

@@ -1,5 +1,5 @@
 //! Records of every kind of length, with old bytes of every kind. The sale writes a byte for each
-//! round, and "bytes after the last round keep their old values".
+//! round and leaves the others as they were (rule 4.12).
 
 use crate::generator::{bytes_of, Generator};
 use crate::reckoning::sale::record_needed;

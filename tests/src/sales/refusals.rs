@@ -1,5 +1,5 @@
-//! Refused sheets, damaged at random, with records of any length. "A refusal returns its number and
-//! place, every other number 0, and the record keeps all its bytes."
+//! Refused sheets, damaged at random, with records of any length. A refusal has zeros but for its
+//! number and place, and leaves the record as it was (rule 3.14).
 
 use crate::generator::{bytes_of, field, Generator};
 use crate::reckoning::sheet::{bundles, place, read_sheet, FIELD, FIRST_LINE, LINE_END};

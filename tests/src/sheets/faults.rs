@@ -1,6 +1,6 @@
-//! Sheets with one, two and three faults at once, at all combinations of places. "Each question is
-//! put to the whole sheet before the next": the answer is the lowest number among the faults,
-//! wherever they stand, and with 6, 7 and 8 the first place of that number.
+//! Sheets with one, two and three faults at once, at all combinations of places. A question is put
+//! to all of the sheet before the next one is (rule 3.12): the answer is the lowest number among
+//! the faults, wherever they stand, and with 6, 7 and 8 the first place of that number.
 
 use crate::generator::{bytes_of, field};
 use crate::reckoning::sheet::{
@@ -88,8 +88,7 @@ impl Fault {
         }
     }
 
-    /// "With 6, 7 and 8 the place is the offset of the first faulty field's first byte, or of the
-    /// faulty line end; otherwise it is 0."
+    /// The place of a refusal for this fault (rule 3.13).
     fn place(&self) -> usize {
         match self.edit {
             Edit::Write(at, _) if self.number >= 6 => at,

@@ -1,14 +1,15 @@
 //! The comparison of the direct way's answers, and of what a buyer has from two sheets.
 
-use super::{difference, Tally};
+use hokewhuni::raw;
+
+use super::{bare, difference, safe, Tally};
 use crate::generator::bytes_of;
-use crate::library;
 use crate::reckoning::allocation::Owners;
 use crate::reckoning::direct::{direct_way, Direct};
 use crate::reckoning::sheet::{Refusal, Sheet, MOST_BUYERS};
 
-/// "Any two accepted sheets that differ at most in the worths of one buyer, whichever it is." "The
-/// first sheet holds that buyer's true table."
+/// Two accepted sheets that are alike but for one buyer's worths; the first has its true ones (rule
+/// 5.15).
 pub struct Pair {
     pub buyer: usize,
     pub first: Sheet,
@@ -18,29 +19,30 @@ pub struct Pair {
 impl Tally {
     /// Compares the whole answers of the direct way.
     pub fn direct(&mut self, sheet: &[u8]) {
-        let difference = direct_difference(&library::direct_way(sheet), &direct_way(sheet));
-        self.count(sheet, difference.as_slice());
+        let answer = raw::direct_way(sheet);
+        let differences = direct_differences(sheet, &answer, &direct_way(sheet));
+        self.count(sheet, &differences);
     }
 
     /// As `direct`, where both have to give the answer known beforehand.
     pub fn known_direct(&mut self, sheet: &[u8], known: &Result<Direct, Refusal>) {
         let direct = direct_way(sheet);
-        let answer = library::direct_way(sheet);
-        let mut differences = Vec::from_iter(direct_difference(&answer, &direct));
+        let answer = raw::direct_way(sheet);
+        let mut differences = direct_differences(sheet, &answer, &direct);
         differences.extend(difference("direct", ("known", known), ("Rust", &direct)));
         self.count(sheet, &differences);
     }
 
-    /// Whether the second sheet gives the buyer no more than the first, "with two sales and with
-    /// two direct reckonings": one comparison for each. "For sales each has its own record."
+    /// Whether the second sheet gives the buyer no more than the first (rule 5.15): of two sales,
+    /// each with its record, and of two direct reckonings, one comparison for each.
     pub fn pair(&mut self, pair: &Pair, mut records: [Vec<u8>; 2]) {
         let sheets = [&pair.first, &pair.second].map(bytes_of);
         let sold = [0, 1].map(|at| {
-            let sale = library::run_sale(&sheets[at], &mut records[at]);
+            let sale = raw::run_sale(&sheets[at], &mut records[at]);
             pair.worth_less_payment(sale.number, &sale.owners, &sale.payments)
         });
         let direct = [0, 1].map(|at| {
-            let direct = library::direct_way(&sheets[at]);
+            let direct = raw::direct_way(&sheets[at]);
             pair.worth_less_payment(direct.number, &direct.owners, &direct.payments)
         });
         for (entry, had) in [("run_sale", sold), ("direct_way", direct)] {
@@ -51,8 +53,8 @@ impl Tally {
 }
 
 impl Pair {
-    /// What the buyer has from an answer: "worth less payment, which may be negative", with the
-    /// worth "from the first sheet". None after a refusal.
+    /// What the buyer has from an answer: worth less payment, by the worths of the first sheet.
+    /// None after a refusal.
     fn worth_less_payment(
         &self,
         number: u8,
@@ -86,35 +88,24 @@ fn gain(
     })
 }
 
-/// What is printed of the library's and the Rust reckoning's direct way, if they differ.
-pub(super) fn direct_difference(
-    answer: &library::Direct,
+/// What is printed of the library's direct way, with this bare answer and by the crate, where it
+/// differs from the Rust reckoning's.
+pub(super) fn direct_differences(
+    sheet: &[u8],
+    answer: &raw::Direct,
     direct: &Result<Direct, Refusal>,
-) -> Option<String> {
-    difference(
+) -> Vec<String> {
+    let mut differences = Vec::from_iter(difference(
         "direct_way",
         ("library", answer),
-        ("Rust", &direct_of(direct)),
-    )
-}
-
-/// The Rust reckoning's direct way in the library's form: "a refusal returns its number and place,
-/// every other number 0".
-fn direct_of(answer: &Result<Direct, Refusal>) -> library::Direct {
-    match answer {
-        Ok(direct) => library::Direct {
-            number: 0,
-            place: 0,
-            total: direct.total,
-            owners: direct.owners,
-            payments: direct.payments,
-        },
-        Err(refusal) => library::Direct {
-            number: refusal.number,
-            place: refusal.place as u32,
-            total: 0,
-            owners: [0; 4],
-            payments: [0; 6],
-        },
-    }
+        ("Rust", &bare::direct(direct)),
+    ));
+    let answer = hokewhuni::direct_way(sheet);
+    differences.extend(safe::differences(
+        "direct_way",
+        &answer,
+        direct,
+        safe::direct,
+    ));
+    differences
 }

@@ -20,14 +20,18 @@ pub(super) fn inside(bytes: &mut [u8]) -> &mut [u8] {
     &mut bytes[MARGIN.len()..end]
 }
 
-/// What is printed of bytes within their margins, from the first in which they differ.
-pub(super) fn lent_difference(what: &str, library: &[u8], rust: &[u8]) -> Option<String> {
-    let at = (0..rust.len()).find(|&at| library[at] != rust[at])?;
+/// What is printed of two named bytes within their margins, from the first in which they differ.
+pub(super) fn lent_difference(
+    what: &str,
+    (one, first): (&str, &[u8]),
+    (other, second): (&str, &[u8]),
+) -> Option<String> {
+    let at = (0..second.len()).find(|&at| first[at] != second[at])?;
     let shown = |bytes: &[u8]| bytes.iter().skip(at).take(SHOWN).copied().collect();
-    let (library, rust): (Vec<u8>, Vec<u8>) = (shown(library), shown(rust));
+    let (first, second): (Vec<u8>, Vec<u8>) = (shown(first), shown(second));
     difference(
         format_args!("{what} from byte {}", at as isize - MARGIN.len() as isize),
-        ("library", &library),
-        ("Rust", &rust),
+        (one, &first),
+        (other, &second),
     )
 }

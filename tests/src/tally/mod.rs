@@ -3,17 +3,21 @@
 
 use std::fmt::{Debug, Display};
 
+use hokewhuni::raw;
+
 use crate::generator::Generator;
-use crate::library::{self, FieldAnswer, Read, Worths};
 use crate::reckoning::sheet::{read_field, read_sheet, Answer, Field, FIELD, FIRST_LINE};
 
+mod bare;
 mod direct;
 mod lent;
 mod prints;
 mod processes;
+mod safe;
 mod sales;
 
 pub use direct::Pair;
+pub use processes::End;
 pub use sales::Told;
 
 /// The most differences that a tally reports.
@@ -79,34 +83,22 @@ impl Tally {
 
     /// Compares the readers' fields at one column.
     pub fn field(&mut self, sheet: &[u8], at: usize) {
-        let difference = field_difference(sheet, at, &read_field(sheet, at));
-        self.count(sheet, difference.as_slice());
+        let differences = field_differences(sheet, at, &read_field(sheet, at));
+        self.count(sheet, &differences);
     }
 
     /// As `field`, where both readers have to give the field known beforehand.
     pub fn known_field(&mut self, sheet: &[u8], at: usize, known: &Field) {
         let field = read_field(sheet, at);
-        let mut differences = Vec::from_iter(field_difference(sheet, at, &field));
+        let mut differences = field_differences(sheet, at, &field);
         differences.extend(difference("field", ("known", known), ("Rust", &field)));
         self.count(sheet, &differences);
     }
 
     fn differences(&mut self, sheet: &[u8], answer: &Answer) -> Vec<String> {
-        let (read, worths) = (library::read_sheet(sheet), library::read_worths(sheet));
-        let expected = worths_of(answer);
-        let mut differences = Vec::new();
-        differences.extend(difference(
-            "read_sheet",
-            ("library", &read),
-            ("Rust", &read_of(&expected)),
-        ));
-        differences.extend(difference(
-            "read_worths",
-            ("library", &worths),
-            ("Rust", &expected),
-        ));
+        let mut differences = read_differences(sheet, answer);
         for at in self.columns(sheet.len()) {
-            differences.extend(field_difference(sheet, at, &read_field(sheet, at)));
+            differences.extend(field_differences(sheet, at, &read_field(sheet, at)));
         }
         differences
     }
@@ -140,12 +132,56 @@ impl Tally {
     }
 }
 
-fn field_difference(sheet: &[u8], at: usize, field: &Field) -> Option<String> {
-    difference(
-        format_args!("read_field at {at}"),
-        ("library", &library::read_field(sheet, at)),
-        ("Rust", &field_answer(field)),
-    )
+/// What is printed of the library's readings of a sheet, bare and by the crate, where they differ
+/// from the Rust reader's.
+fn read_differences(sheet: &[u8], answer: &Answer) -> Vec<String> {
+    let expected = bare::worths(answer);
+    let mut differences = Vec::new();
+    differences.extend(difference(
+        "read_sheet",
+        ("library", &raw::read_sheet(sheet)),
+        ("Rust", &bare::read(&expected)),
+    ));
+    differences.extend(difference(
+        "read_worths",
+        ("library", &raw::read_worths(sheet)),
+        ("Rust", &expected),
+    ));
+    let (size, worths) = (hokewhuni::read_sheet(sheet), hokewhuni::read_worths(sheet));
+    differences.extend(safe::differences("read_sheet", &size, answer, safe::size));
+    differences.extend(safe::differences(
+        "read_worths",
+        &worths,
+        answer,
+        safe::worths,
+    ));
+    if let (Ok(worths), Ok(sheet)) = (&worths, answer) {
+        let by_numbers = safe::table(|buyer, bundle| worths.worth(buyer, bundle));
+        differences.extend(difference(
+            "worth",
+            ("crate", &by_numbers),
+            ("Rust", &sheet.worths),
+        ));
+    }
+    differences
+}
+
+/// What is printed of the library's field at a column, bare and by the crate, where it differs from
+/// the Rust reader's.
+fn field_differences(sheet: &[u8], at: usize, field: &Field) -> Vec<String> {
+    let what = format_args!("read_field at {at}");
+    let mut differences = Vec::new();
+    differences.extend(difference(
+        what,
+        ("library", &raw::read_field(sheet, at)),
+        ("Rust", &bare::field(field)),
+    ));
+    differences.extend(difference(
+        what,
+        ("crate", &hokewhuni::read_field(sheet, at)),
+        ("Rust", &safe::field(field)),
+    ));
+    differences
 }
 
 /// What is printed of two named answers, if they differ.
@@ -167,51 +203,4 @@ fn text_difference(
         let (first, second) = (first.escape_ascii(), second.escape_ascii());
         format!("  {what}\n    {one}: \"{first}\"\n    {other}: \"{second}\"")
     })
-}
-
-/// The Rust reader's answer in the library's form: a refusal "returns its number and place, every
-/// other number 0", and "an accepted sheet's answer has number and place 0".
-fn worths_of(answer: &Answer) -> Worths {
-    let mut form = Worths {
-        number: 0,
-        place: 0,
-        buyers: 0,
-        lots: 0,
-        worths: [0; 96],
-    };
-    match answer {
-        Ok(sheet) => {
-            form.buyers = sheet.buyers as u8;
-            form.lots = sheet.lots as u8;
-            form.worths.copy_from_slice(sheet.worths.as_flattened());
-        }
-        Err(refusal) => {
-            form.number = refusal.number;
-            form.place = refusal.place as u32;
-        }
-    }
-    form
-}
-
-/// The same without the worths.
-fn read_of(worths: &Worths) -> Read {
-    Read {
-        number: worths.number,
-        place: worths.place,
-        buyers: worths.buyers,
-        lots: worths.lots,
-    }
-}
-
-/// The Rust reader's field in the library's form.
-fn field_answer(field: &Field) -> FieldAnswer {
-    let (number, value) = match field.number {
-        Ok(number) => (0, number as usize),
-        Err(place) => (6, place),
-    };
-    FieldAnswer {
-        next: field.next,
-        number,
-        value,
-    }
 }

@@ -1,8 +1,9 @@
 //! The comparison of printed sales, of their records and buffers.
 
+use hokewhuni::raw;
+
 use super::lent::{inside, lent_difference, within_margins};
 use super::{difference, text_difference, Tally};
-use crate::library;
 use crate::reckoning::print::printed;
 use crate::reckoning::sale::run_sale;
 
@@ -44,31 +45,47 @@ impl Print {
         }
     }
 
-    /// The differences of the library's print from this one.
+    /// The differences of the library's print, bare and by the crate, from this one.
     fn differences(&self, sheet: &[u8], record: &[u8], buffer: &[u8]) -> Vec<String> {
-        let (mut record, mut out) = (within_margins(record), within_margins(buffer));
-        let length = library::print_sale(sheet, inside(&mut record), inside(&mut out));
         let (expected, reckoned) = self.put(buffer);
-        let mut differences = Vec::from_iter(difference(
-            format_args!("print_sale into {} bytes", buffer.len()),
+        let what = format_args!("print_sale into {} bytes", buffer.len());
+        let left = [&self.record, &reckoned].map(|bytes| within_margins(bytes));
+        let lent = || [record, buffer].map(within_margins);
+        let mut differences = Vec::new();
+
+        let [mut record, mut out] = lent();
+        let length = raw::print_sale(sheet, inside(&mut record), inside(&mut out));
+        differences.extend(difference(
+            what,
             ("library", &length),
-            ("Rust", &expected),
+            ("Rust", &expected.unwrap_or(0)),
         ));
-        differences.extend(lent_difference("buffer", &out, &within_margins(&reckoned)));
-        differences.extend(lent_difference(
-            "record",
-            &record,
-            &within_margins(&self.record),
-        ));
+        differences.extend(left_differences("library", [record, out], &left));
+
+        let [mut record, mut out] = lent();
+        let length = hokewhuni::print_sale(sheet, inside(&mut record), inside(&mut out));
+        differences.extend(difference(what, ("crate", &length), ("Rust", &expected)));
+        differences.extend(left_differences("crate", [record, out], &left));
         differences
     }
 
-    /// The text at the front of a buffer, and its length; or 0 where it has no room, and the buffer
-    /// as it was.
-    fn put(&self, buffer: &[u8]) -> (usize, Vec<u8>) {
+    /// The text at the front of a buffer, and its length; or none where it has no room, and the
+    /// buffer as it was.
+    fn put(&self, buffer: &[u8]) -> (Option<usize>, Vec<u8>) {
         match buffer.get(self.text.len()..) {
-            Some(rest) => (self.text.len(), [&self.text, rest].concat()),
-            None => (0, buffer.to_vec()),
+            Some(rest) => (Some(self.text.len()), [&self.text, rest].concat()),
+            None => (None, buffer.to_vec()),
         }
     }
+}
+
+/// What is printed of the record and the buffer that are left, where they differ.
+fn left_differences(
+    name: &str,
+    [record, out]: [Vec<u8>; 2],
+    [reckoned_record, reckoned_out]: &[Vec<u8>; 2],
+) -> Vec<String> {
+    let record = lent_difference("record", (name, &record), ("Rust", reckoned_record));
+    let out = lent_difference("buffer", (name, &out), ("Rust", reckoned_out));
+    record.into_iter().chain(out).collect()
 }

@@ -3,8 +3,26 @@
 use std::fmt::Display;
 use std::io;
 
-use super::{text_difference, Tally};
+use super::{difference, text_difference, Tally};
 use crate::process::Ended;
+
+/// How a process has to end.
+pub struct End<'a> {
+    pub status: i32,
+    pub output: &'a [u8],
+    pub errors: &'a [u8],
+}
+
+impl<'a> End<'a> {
+    /// With nothing printed, and this said on standard error.
+    pub fn saying(status: i32, errors: &'a str) -> Self {
+        End {
+            status,
+            output: b"",
+            errors: errors.as_bytes(),
+        }
+    }
+}
 
 /// After so many failures no further process is run, since each may take all of its time.
 const MOST_FAILED: u64 = 20;
@@ -21,6 +39,32 @@ impl Tally {
         self.ended(what, run, |ended| {
             let mut differences = Vec::from_iter(ended.failure());
             differences.extend(written_difference("output", &ended.output, output));
+            differences
+        });
+    }
+
+    /// As `process`, where the process has to end in this way.
+    pub fn process_end(
+        &mut self,
+        what: impl Display,
+        run: impl FnOnce() -> io::Result<Ended>,
+        end: &End,
+    ) {
+        self.ended(what, run, |ended| {
+            let status = ended.status.and_then(|status| status.code());
+            let expected = Some(end.status);
+            let mut differences = Vec::new();
+            differences.extend(difference(
+                "status",
+                ("process", &status),
+                ("expected", &expected),
+            ));
+            differences.extend(written_difference("output", &ended.output, end.output));
+            differences.extend(written_difference(
+                "standard error",
+                &ended.errors,
+                end.errors,
+            ));
             differences
         });
     }

@@ -1,13 +1,18 @@
 //! The comparison of demand answers, of sales and of their records.
 
-use super::direct::direct_difference;
+use hokewhuni::raw;
+
+use super::direct::direct_differences;
 use super::lent::{inside, lent_difference, within_margins};
-use super::{difference, Tally};
-use crate::library;
+use super::{bare, difference, safe, text_difference, Tally};
 use crate::reckoning::demand::{buyer_demand, Demand, Prices};
 use crate::reckoning::direct::direct_way;
+use crate::reckoning::print::{printed, LONGEST_RECORD};
 use crate::reckoning::sale::{run_sale, Closing, Sale};
 use crate::reckoning::sheet::Refusal;
+
+/// From this number on, a buyer asked about is beyond the library's numbers, and absent.
+const BEYOND: usize = 1 << 32;
 
 /// What a settled sale comes to: the bytes recorded, one for each round, and the closing.
 #[derive(Clone, Debug, PartialEq, Eq)]
@@ -28,6 +33,22 @@ impl Tally {
     pub fn known_sale(&mut self, sheet: &[u8], record: &[u8], known: &Result<Told, Refusal>) {
         let (told, mut differences) = compare_sale(sheet, record);
         differences.extend(difference("sale", ("known", known), ("Rust", &told)));
+        self.count(sheet, &differences);
+    }
+
+    /// Compares the sale and the printed sale of the crate's functions that bring the record
+    /// themselves.
+    pub fn own_record(&mut self, sheet: &[u8]) {
+        let mut record = vec![0; LONGEST_RECORD];
+        let sale = run_sale(sheet, &mut record);
+        let told = |sale: &Sale| (safe::sale(sale), record[..sale.rounds].to_vec());
+        let answer = hokewhuni::recorded_sale(sheet);
+        let mut differences = safe::differences("recorded_sale", &answer, &sale, told);
+        differences.extend(text_difference(
+            "printed_sale",
+            ("crate", &hokewhuni::printed_sale(sheet)),
+            ("Rust", &printed(&sale)),
+        ));
         self.count(sheet, &differences);
     }
 
@@ -58,33 +79,44 @@ fn compare_demand(
     prices: &Prices,
 ) -> (Result<Demand, Refusal>, Vec<String>) {
     let demand = buyer_demand(sheet, buyer, prices);
-    let difference = difference(
-        format_args!("buyer_demand of buyer {buyer} at {prices:?}"),
+    let what = format_args!("buyer_demand of buyer {buyer} at {prices:?}");
+    let mut differences = Vec::from_iter(difference(
+        what,
         (
             "library",
-            &library::buyer_demand(sheet, buyer, &flat(prices)),
+            &raw::buyer_demand(sheet, buyer, &bare::flat(prices)),
         ),
-        ("Rust", &demand_of(&demand)),
-    );
-    (demand, Vec::from_iter(difference))
+        ("Rust", &bare::demand(&demand)),
+    ));
+    let answer = hokewhuni::buyer_demand(sheet, buyer as usize, prices);
+    differences.extend(safe::differences(what, &answer, &demand, safe::demand));
+    let absent = buyer_demand(sheet, u32::MAX, prices);
+    let answer = hokewhuni::buyer_demand(sheet, BEYOND + buyer as usize, prices);
+    differences.extend(safe::differences(what, &answer, &absent, safe::demand));
+    (demand, differences)
 }
 
 /// What the Rust reckoning tells of a sale, and its differences from the library, from the direct
 /// way and from what holds of every sale.
 fn compare_sale(sheet: &[u8], record: &[u8]) -> (Result<Told, Refusal>, Vec<String>) {
-    let mut lent = within_margins(record);
-    let answer = library::run_sale(sheet, inside(&mut lent));
     let mut reckoned = record.to_vec();
     let sale = run_sale(sheet, &mut reckoned);
-    let mut differences = Vec::new();
-    differences.extend(difference(
+    let left = within_margins(&reckoned);
+    let mut lent = within_margins(record);
+    let answer = raw::run_sale(sheet, inside(&mut lent));
+    let mut differences = Vec::from_iter(difference(
         format_args!("run_sale with a record of {} bytes", record.len()),
         ("library", &answer),
-        ("Rust", &sale_of(&sale)),
+        ("Rust", &bare::sale(&sale)),
     ));
-    differences.extend(lent_difference("record", &lent, &within_margins(&reckoned)));
-    let direct = library::direct_way(sheet);
-    differences.extend(direct_difference(&direct, &direct_way(sheet)));
+    differences.extend(lent_difference(
+        "record",
+        ("library", &lent),
+        ("Rust", &left),
+    ));
+    differences.extend(safe_differences(sheet, record, &sale, &left));
+    let direct = raw::direct_way(sheet);
+    differences.extend(direct_differences(sheet, &direct, &direct_way(sheet)));
     differences.extend(unlike(&answer, &direct));
     if let Ok(sale) = &sale {
         differences.extend(claims(sale));
@@ -96,9 +128,33 @@ fn compare_sale(sheet: &[u8], record: &[u8]) -> (Result<Told, Refusal>, Vec<Stri
     (told, differences)
 }
 
-/// What is printed of a settled sale that breaks this: "the sale's owners and payments, place for
-/// place, are the direct way's for that sheet".
-fn unlike(sale: &library::Sale, direct: &library::Direct) -> Option<String> {
+/// What is printed of the crate's sale, with a record of its own, where it differs from the Rust
+/// reckoning's, or the record from what has to be left in it.
+fn safe_differences(
+    sheet: &[u8],
+    record: &[u8],
+    sale: &Result<Sale, Refusal>,
+    left: &[u8],
+) -> Vec<String> {
+    let mut lent = within_margins(record);
+    let answer = hokewhuni::run_sale(sheet, inside(&mut lent));
+    let what = format_args!("run_sale with a record of {} bytes", record.len());
+    let mut differences = safe::differences(what, &answer, sale, safe::sale);
+    if let (Ok(answer), Ok(sale)) = (&answer, sale) {
+        let by_numbers = safe::table(|buyer, bundle| answer.price(buyer, bundle));
+        differences.extend(difference(
+            "price",
+            ("crate", &by_numbers),
+            ("Rust", &sale.prices),
+        ));
+    }
+    differences.extend(lent_difference("record", ("crate", &lent), ("Rust", left)));
+    differences
+}
+
+/// What is printed of a settled sale that breaks rule 5.13: owners and payments are those of the
+/// direct way.
+fn unlike(sale: &raw::Sale, direct: &raw::Direct) -> Option<String> {
     if sale.number != 0 {
         return None;
     }
@@ -109,9 +165,9 @@ fn unlike(sale: &library::Sale, direct: &library::Direct) -> Option<String> {
     )
 }
 
-/// What is printed of a settled sale that breaks one of these: the number of rounds "is at most
-/// question 9's sum"; and each raise takes 1 off a greatest payoff, which is at first the worth of
-/// all lots.
+/// What is printed of a settled sale that breaks one of these: there are no more rounds than
+/// question 9's sum (rule 4.14); and each raise takes 1 off a greatest payoff, which is at first the
+/// worth of all lots.
 fn claims(sale: &Sale) -> Vec<String> {
     let sum = sale.record_needed as i64;
     let mut broken = Vec::new();
@@ -124,61 +180,4 @@ fn claims(sale: &Sale) -> Vec<String> {
         ("worths of all lots", &sum),
     ));
     broken
-}
-
-/// The Rust reckoning's demand in the library's form.
-fn demand_of(answer: &Result<Demand, Refusal>) -> library::Demand {
-    match answer {
-        Ok(demand) => library::Demand {
-            number: 0,
-            place: 0,
-            bundles: demand.bundles,
-            keen: demand.keen(),
-        },
-        Err(refusal) => library::Demand {
-            number: refusal.number,
-            place: refusal.place as u32,
-            bundles: 0,
-            keen: false,
-        },
-    }
-}
-
-/// The Rust reckoning's sale in the library's form: "a refusal returns its number and place, every
-/// other number 0".
-fn sale_of(answer: &Result<Sale, Refusal>) -> library::Sale {
-    let mut form = library::Sale {
-        number: 0,
-        place: 0,
-        buyers: 0,
-        lots: 0,
-        rounds: 0,
-        prices: [0; 96],
-        owners: [0; 4],
-        discounts: [0; 6],
-        payments: [0; 6],
-    };
-    match answer {
-        Ok(sale) => {
-            form.buyers = sale.buyers as u8;
-            form.lots = sale.lots as u8;
-            form.rounds = sale.rounds as u32;
-            form.prices = flat(&sale.prices);
-            form.owners = sale.closing.owners;
-            form.discounts = sale.closing.discounts;
-            form.payments = sale.closing.payments;
-        }
-        Err(refusal) => {
-            form.number = refusal.number;
-            form.place = refusal.place as u32;
-        }
-    }
-    form
-}
-
-/// The ninety-six prices in a row.
-fn flat(prices: &Prices) -> [u16; 96] {
-    let mut row = [0; 96];
-    row.copy_from_slice(prices.as_flattened());
-    row
 }

@@ -1,0 +1,55 @@
+//! The library's functions, which answer what is asked or a refusal.
+
+use crate::answers::{flat, Demand, Direct, Field, Sale, Size, Table, Worths};
+use crate::raw;
+use crate::refusal::Refusal;
+
+/// Reads the six columns of a sheet from offset `at`, any offset: a number right-justified after
+/// blanks. The next column is `at + 6`, also after a fault. With fewer than six bytes left the
+/// field is a fault, and the next column is the sheet's length. No question is asked.
+pub fn read_field(sheet: &[u8], at: usize) -> Field {
+    Field::new(&raw::read_field(sheet, at))
+}
+
+/// Asks questions 1 to 8, and answers the numbers of buyers and lots.
+pub fn read_sheet(sheet: &[u8]) -> Result<Size, Refusal> {
+    Size::new(&raw::read_sheet(sheet))
+}
+
+/// Asks questions 1 to 8, and answers the numbers of buyers and lots, and the worths.
+pub fn read_worths(sheet: &[u8]) -> Result<Worths, Refusal> {
+    Worths::new(&raw::read_worths(sheet))
+}
+
+/// Asks questions 1 to 8 and 10, and answers what a buyer demands at a table of prices, whatever
+/// they are.
+pub fn buyer_demand(sheet: &[u8], buyer: usize, prices: &Table) -> Result<Demand, Refusal> {
+    // No number that is too great for the library is a buyer's.
+    let buyer = u32::try_from(buyer).unwrap_or(u32::MAX);
+    Demand::new(&raw::buyer_demand(sheet, buyer, &flat(prices)))
+}
+
+/// Asks questions 1 to 9, runs the sale by rounds, and answers it settled. The number of each
+/// round's set, the sum of 2^(i − 1) over its buyers i, is the next byte of the record. Bytes after
+/// the last round keep their values; with a refusal all bytes do.
+pub fn run_sale(sheet: &[u8], record: &mut [u8]) -> Result<Sale, Refusal> {
+    Sale::new(&raw::run_sale(sheet, record))
+}
+
+/// Asks questions 1 to 8, and answers owners and payments reckoned from the worths alone. They are
+/// those of [`run_sale`] wherever that settles the sheet; it may refuse one for its record (9) that
+/// is answered here.
+pub fn direct_way(sheet: &[u8]) -> Result<Direct, Refusal> {
+    Direct::new(&raw::direct_way(sheet))
+}
+
+/// Runs the sale as [`run_sale`] does, its record too, and writes what is printed of it to the
+/// front of `out`. Answers the length of that, and the bytes of `out` after it keep their values;
+/// or `None` where it has no room, and all bytes of `out` keep their values. Numbers stand in
+/// fields of six columns, and lines end with byte 10. Of a settled sale: a line of 0, buyers, lots,
+/// rounds; for each lot a line of lot and owner; for each buyer a line of buyer, price of its
+/// bundle, discount, payment. Of a refusal: one line of number and place, 13 bytes.
+pub fn print_sale(sheet: &[u8], record: &mut [u8], out: &mut [u8]) -> Option<usize> {
+    let length = raw::print_sale(sheet, record, out);
+    (length > 0).then_some(length)
+}

@@ -1,0 +1,121 @@
+//! The refusals.
+
+use std::error::Error;
+use std::fmt::{self, Display, Formatter};
+
+/// Why a sheet is refused: the first question that gets a no. The questions are asked in this
+/// order; m and n are the sheet's numbers of buyers and lots. `place` is the offset in bytes of the
+/// first faulty field or line end.
+#[derive(Clone, Copy, Debug, PartialEq, Eq, Hash)]
+#[non_exhaustive]
+pub enum Refusal {
+    /// 1: fewer than 13 bytes.
+    TooShort,
+    /// 2: the first line is not two good fields and a line end at offset 12.
+    FirstLine,
+    /// 3: the number of buyers is not 1 to 6.
+    BuyerCount,
+    /// 4: the number of lots is not 1 to 4.
+    LotCount,
+    /// 5: the length is not 13 + m × (6 × (2^n − 1) + 1).
+    WrongLength,
+    /// 6: a later field or line end is not good.
+    Fault {
+        /// Its offset.
+        place: usize,
+    },
+    /// 7: a worth is above 9,999.
+    WorthTooHigh {
+        /// The offset of its field.
+        place: usize,
+    },
+    /// 8: a bundle of two or more lots is worth less than the same with one lot fewer.
+    WorthFalls {
+        /// The offset of the bundle's field.
+        place: usize,
+    },
+    /// 9, only of a sale: the record has fewer bytes than the sum, over buyers, of the worth of all
+    /// lots together.
+    RecordTooShort,
+    /// 10, only of a demand answer: the buyer asked about is not 1 to m.
+    NoSuchBuyer,
+}
+
+impl Refusal {
+    /// Refuses with an answer's number and place, or not with number 0.
+    pub(crate) fn check(number: u8, place: usize) -> Result<(), Self> {
+        Err(match number {
+            0 => return Ok(()),
+            1 => Refusal::TooShort,
+            2 => Refusal::FirstLine,
+            3 => Refusal::BuyerCount,
+            4 => Refusal::LotCount,
+            5 => Refusal::WrongLength,
+            6 => Refusal::Fault { place },
+            7 => Refusal::WorthTooHigh { place },
+            8 => Refusal::WorthFalls { place },
+            9 => Refusal::RecordTooShort,
+            10 => Refusal::NoSuchBuyer,
+            _ => panic!("libhokewhuni.a refused with {number}, which no question has"),
+        })
+    }
+
+    /// The question's number, 1 to 10, as it is printed.
+    pub fn number(self) -> u8 {
+        match self {
+            Refusal::TooShort => 1,
+            Refusal::FirstLine => 2,
+            Refusal::BuyerCount => 3,
+            Refusal::LotCount => 4,
+            Refusal::WrongLength => 5,
+            Refusal::Fault { .. } => 6,
+            Refusal::WorthTooHigh { .. } => 7,
+            Refusal::WorthFalls { .. } => 8,
+            Refusal::RecordTooShort => 9,
+            Refusal::NoSuchBuyer => 10,
+        }
+    }
+
+    /// The place with 6, 7 and 8, else 0, as it is printed.
+    pub fn place(self) -> usize {
+        match self {
+            Refusal::Fault { place }
+            | Refusal::WorthTooHigh { place }
+            | Refusal::WorthFalls { place } => place,
+            _ => 0,
+        }
+    }
+}
+
+/// What the number means in words, and where.
+impl Display for Refusal {
+    fn fmt(&self, to: &mut Formatter) -> fmt::Result {
+        to.write_str(match self {
+            Refusal::TooShort => "fewer than 13 bytes",
+            Refusal::FirstLine => {
+                "the first line is not two good fields and a line end at offset 12"
+            }
+            Refusal::BuyerCount => "the number of buyers is not 1 to 6",
+            Refusal::LotCount => "the number of lots is not 1 to 4",
+            Refusal::WrongLength => {
+                "the length is not 13 + m * (6 * (2^n - 1) + 1), with m buyers and n lots"
+            }
+            Refusal::Fault { .. } => "a later field or line end is not good",
+            Refusal::WorthTooHigh { .. } => "a worth is above 9,999",
+            Refusal::WorthFalls { .. } => {
+                "a bundle of two or more lots is worth less than the same with one lot fewer"
+            }
+            Refusal::RecordTooShort => {
+                "the record has fewer bytes than the sum, over buyers, of the worth of all lots \
+                 together"
+            }
+            Refusal::NoSuchBuyer => "the buyer asked about is not 1 to m, of m buyers",
+        })?;
+        match self.number() {
+            6..=8 => write!(to, ", at offset {}", self.place()),
+            _ => Ok(()),
+        }
+    }
+}
+
+impl Error for Refusal {}

@@ -1,0 +1,170 @@
+//! What `hokewhuni install` puts into a folder, used there without the kit.
+
+use std::fs;
+use std::os::unix::fs::symlink;
+use std::path::Path;
+use std::process::Command;
+
+use super::building::SYSTEM;
+use super::examples::examples;
+use super::folder::Folder;
+use super::{in_repository, BUILDING};
+use crate::process::{run, run_within, Ended};
+use crate::tally::{End, Tally};
+
+/// What a folder has after an installation, besides the examples and what is there for Rust.
+const FILES: [&str; 5] = [
+    "hokewhuni",
+    "programs/sale_main",
+    "lib/libhokewhuni.a",
+    "include/hokewhuni.h",
+    "docs/TEACHER.md",
+];
+
+/// A program in C, with what was installed.
+const COMPILE: &str = "cc -std=c11 -Iinclude examples/office.c lib/libhokewhuni.a -o office";
+
+pub fn compare(tally: &mut Tally) {
+    tally.group("an installed copy", |tally| {
+        let folder = Folder::new("installing").map(Some);
+        let Some(folder) = tally.succeeds("a folder", folder) else {
+            return;
+        };
+        let [first, second] = ["a folder", "-second"].map(|name| folder.path().join(name));
+        let install = || {
+            let mut command = Command::new(in_repository("hokewhuni"));
+            run_within(command.arg("install").arg(&first), BUILDING)
+        };
+        tally.succeeds("install", installed(install(), &first));
+        files(tally, &first);
+        sales(tally, &first);
+        // An installed copy installs others, by a relative path too.
+        let again = || {
+            let mut command = system(&first.join("hokewhuni"));
+            command.args(["install", "--", "-second"]);
+            run(command.current_dir(folder.path()), b"")
+        };
+        tally.succeeds("install again", installed(again(), Path::new("-second")));
+        files(tally, &second);
+        linked(tally, folder.path(), &second);
+        c_program(tally, &second);
+        rust_program(tally, &second);
+        not_a_folder(tally, &first);
+        empty_program(tally, &first);
+    });
+}
+
+/// A command that finds the system's tools and nothing else.
+fn system(program: &Path) -> Command {
+    let mut command = Command::new(program);
+    command.env_clear().env("PATH", SYSTEM);
+    command
+}
+
+/// It ends with status 0, and says where the command is.
+fn installed(ended: std::io::Result<Ended>, folder: &Path) -> Result<(), String> {
+    let ended = ended.map_err(|error| error.to_string())?;
+    let line = format!("installed: {}/hokewhuni\n", folder.display());
+    let right = ended.with(0) && ended.output == line.as_bytes();
+    right.then_some(()).ok_or_else(|| format!("{ended:?}"))
+}
+
+/// All that has to be there is, and sheets, header and page are those of the repository.
+fn files(tally: &mut Tally, folder: &Path) {
+    for file in FILES {
+        let there = folder.join(file).is_file();
+        tally.succeeds(file, there.then_some(()).ok_or("not installed".to_string()));
+    }
+    for file in ["hokewhuni", "include/hokewhuni.h", "docs/TEACHER.md"] {
+        let read = |path: &Path| fs::read(path).map_err(|error| error.to_string());
+        let ours = tally.succeeds(file, read(&in_repository(file)));
+        let theirs = tally.succeeds(file, read(&folder.join(file)));
+        tally.text(file, &theirs, &ours);
+    }
+}
+
+/// The sale of every example, as it stands there.
+fn sales(tally: &mut Tally, folder: &Path) {
+    for example in tally.succeeds("the examples", examples()) {
+        let path = Path::new("examples").join(example.path.file_name().unwrap_or_default());
+        let end = End {
+            status: example.status(),
+            output: &example.sale,
+            errors: b"",
+        };
+        let mut command = system(&folder.join("hokewhuni"));
+        command.arg("sale").arg(&path).current_dir(folder);
+        let what = format!("an installed hokewhuni sale {}", path.display());
+        tally.process_end(what, || run(&mut command, b""), &end);
+    }
+}
+
+/// The command by a link to it, from another folder.
+fn linked(tally: &mut Tally, other: &Path, folder: &Path) {
+    let link = other.join("link");
+    let linked = symlink(folder.join("hokewhuni"), &link).map_err(|error| error.to_string());
+    tally.succeeds("a link", linked);
+    let sheet = in_repository("examples/table-3.sheet");
+    let sale = fs::read(in_repository("examples/table-3.sale"));
+    let sale = tally.succeeds("table 3", sale.map_err(|error| error.to_string()));
+    let run = || run(system(&link).current_dir(other).arg("sale").arg(sheet), b"");
+    tally.process("hokewhuni sale by a link", run, &sale);
+}
+
+/// The C example compiles with what was installed, and runs.
+fn c_program(tally: &mut Tally, folder: &Path) {
+    let mut compile = system(Path::new("sh"));
+    compile.args(["-c", COMPILE]).current_dir(folder);
+    tally.process(COMPILE, || run(&mut compile, b""), b"");
+    let expected = fs::read(in_repository("examples/office.out"));
+    let expected = tally.succeeds("office.out", expected.map_err(|error| error.to_string()));
+    let mut office = system(&folder.join("office"));
+    office.arg("examples/example.sheet").current_dir(folder);
+    tally.process("an installed office", || run(&mut office, b""), &expected);
+}
+
+/// The Rust example, too.
+fn rust_program(tally: &mut Tally, folder: &Path) {
+    let sale = fs::read(in_repository("examples/table-3.sale"));
+    let sale = tally.succeeds("table 3", sale.map_err(|error| error.to_string()));
+    let mut cargo = Command::new("cargo");
+    cargo
+        .args(["run", "--quiet", "--offline", "--example", "sale"])
+        .arg("../examples/table-3.sheet")
+        .env_remove("HOKEWHUNI_LIB")
+        .current_dir(folder.join("rust"));
+    let run = || run_within(&mut cargo, BUILDING);
+    tally.process("an installed Rust example", run, &sale);
+}
+
+/// A folder cannot be made in a file.
+fn not_a_folder(tally: &mut Tally, folder: &Path) {
+    let within = folder.join("hokewhuni/within");
+    let within_file = within.display();
+    let said = format!("hokewhuni: {within_file} could not be written: Not a directory\n");
+    let end = End::saying(3, &said);
+    let run = || {
+        run(
+            system(&folder.join("hokewhuni"))
+                .arg("install")
+                .arg(&within),
+            b"",
+        )
+    };
+    tally.process_end("install into a file", run, &end);
+}
+
+/// A program that prints nothing settles nothing.
+fn empty_program(tally: &mut Tally, folder: &Path) {
+    let emptied = fs::write(folder.join("programs/sale_main"), b"");
+    tally.succeeds(
+        "an empty program",
+        emptied.map_err(|error| error.to_string()),
+    );
+    let mut command = system(&folder.join("hokewhuni"));
+    command
+        .args(["sale", "examples/table-3.sheet"])
+        .current_dir(folder);
+    let end = End::saying(4, "hokewhuni: the program sale_main printed too little\n");
+    tally.process_end("an empty program", || run(&mut command, b""), &end);
+}
