@@ -6,7 +6,7 @@ use std::thread::{self, sleep};
 use std::time::{Duration, Instant};
 
 /// A process that takes longer is killed, unless another limit is given.
-const LIMIT: Duration = Duration::from_secs(10);
+const LIMIT: Duration = Duration::from_secs(30);
 
 /// Between two looks whether a process has ended.
 const STEP: Duration = Duration::from_micros(100);
@@ -67,7 +67,8 @@ pub fn run_into(
     end(child, LIMIT)
 }
 
-/// As `run`, where nobody reads the output any more when the input comes.
+/// As `run`, where nobody reads the output any more when the input comes: for what writes nothing
+/// before it has its input.
 pub fn run_unread(command: &mut Command, input: &[u8]) -> io::Result<Ended> {
     let mut child = start(command, Stdio::piped(), Stdio::piped())?;
     drop(child.stdout.take());
@@ -98,7 +99,7 @@ fn feed(pipe: Option<ChildStdin>, pieces: &[&[u8]]) -> io::Result<()> {
 }
 
 /// Waits for the end, and meanwhile reads what is written.
-fn end(mut child: Child, limit: Duration) -> io::Result<Ended> {
+pub fn end(mut child: Child, limit: Duration) -> io::Result<Ended> {
     let (output, errors) = (child.stdout.take(), child.stderr.take());
     thread::scope(|scope| {
         let waiting = scope.spawn(|| wait(&mut child, limit));

@@ -3,13 +3,13 @@
 
 use std::fs::{self, File};
 use std::path::{Path, PathBuf};
-use std::process::{Command, Stdio};
+use std::process::{Child, Command, Stdio};
 use std::thread::{self, sleep};
 use std::time::{Duration, Instant, SystemTime};
 
 use super::folder::Folder;
 use super::in_repository;
-use crate::process::{run, Ended};
+use crate::process::{end, run, run_within, Ended};
 use crate::tally::Tally;
 
 /// The system's tools, and nothing of the kit.
@@ -35,8 +35,11 @@ chmod +x target/bin/sale_main
 echo "$text" >target/stamp/sale_main
 "#;
 
-/// How long a test waits for a build to begin.
-const PATIENCE: Duration = Duration::from_secs(10);
+/// How long a test waits for a build to begin or to end.
+const PATIENCE: Duration = Duration::from_secs(60);
+
+/// What a sale says that finds another one building.
+const WAITING: &str = "hokewhuni: waiting for another build\n";
 
 /// A tree with the command and a program's source, and notes of what was built.
 struct Tree {
@@ -126,7 +129,7 @@ impl Tree {
 
     /// A sale with the stand-in on the path.
     fn sell(&self) -> Result<Ended, String> {
-        told(run(&mut self.command(&self.with_rt()), b""))
+        told(run_within(&mut self.command(&self.with_rt()), PATIENCE))
     }
 
     /// How often something was built.
@@ -167,13 +170,33 @@ impl Tree {
 
     /// Waits until a build has begun.
     fn begun(&self) -> Result<(), String> {
-        let start = Instant::now();
-        while !self.path("begun").exists() {
-            require(start.elapsed() < PATIENCE, || "no build began".to_string())?;
-            sleep(Duration::from_millis(20));
-        }
-        Ok(())
+        until("no build began", || self.path("begun").exists())
     }
+
+    /// Starts another sale while one builds, and waits until it says that it waits.
+    fn second(&self) -> Result<Child, String> {
+        let errors = told(File::create(self.path("said")))?;
+        let mut sale = self.command(&self.with_rt());
+        sale.stdin(Stdio::null()).stdout(Stdio::piped());
+        let sale = told(sale.stderr(errors).spawn())?;
+        until("no sale waits", || self.said().starts_with(WAITING))?;
+        Ok(sale)
+    }
+
+    /// What that one has said.
+    fn said(&self) -> String {
+        fs::read_to_string(self.path("said")).unwrap_or_default()
+    }
+}
+
+/// Waits until something is so.
+fn until(wrong: &str, so: impl Fn() -> bool) -> Result<(), String> {
+    let start = Instant::now();
+    while !so() {
+        require(start.elapsed() < PATIENCE, || wrong.to_string())?;
+        sleep(Duration::from_millis(20));
+    }
+    Ok(())
 }
 
 const SOURCE: &str = "crates/sale_main/src/main.rt";
@@ -247,21 +270,15 @@ fn edit_taken_back(tree: &Tree) -> Result<(), String> {
 fn two_at_once(tree: &Tree) -> Result<(), String> {
     tree.edit("seven")?;
     let before = tree.calls();
-    thread::scope(|scope| {
-        let mut second = None;
-        let first = tree.meanwhile(|| {
-            second = Some(scope.spawn(|| tree.sell()));
-            sleep(Duration::from_secs(2));
-            Ok(())
-        })?;
-        sold(&first, "seven")?;
-        let second = second.ok_or("no second sale")?;
-        let second = second.join().expect("a sale does not panic")?;
-        sold(&second, "seven")?;
-        let errors = String::from_utf8_lossy(&second.errors);
-        let waited = errors == "hokewhuni: waiting for another build\n";
-        require(waited, || errors.to_string())
+    let mut second = None;
+    let first = tree.meanwhile(|| {
+        second = Some(tree.second()?);
+        Ok(())
     })?;
+    sold(&first, "seven")?;
+    let second = second.ok_or("no second sale")?;
+    sold(&told(end(second, PATIENCE))?, "seven")?;
+    require(tree.said() == WAITING, || tree.said())?;
     require(tree.calls() == before + 1, || "built twice".to_string())
 }
 
@@ -275,16 +292,9 @@ fn interrupted(tree: &Tree) -> Result<(), String> {
     told(sale.kill().and_then(|()| sale.wait()))?;
     begun?;
     tree.edit("nine")?;
-    thread::scope(|scope| {
-        let next = scope.spawn(|| tree.sell());
-        sleep(Duration::from_secs(2));
-        tree.write("go", "")?;
-        let next = next.join().expect("a sale does not panic")?;
-        sold(&next, "nine")?;
-        let errors = String::from_utf8_lossy(&next.errors);
-        let waited = errors.starts_with("hokewhuni: waiting for another build\n");
-        require(waited, || errors.to_string())
-    })?;
+    let next = tree.second();
+    tree.write("go", "")?;
+    sold(&told(end(next?, PATIENCE))?, "nine")?;
     quiet(&tree.expect("nine", 0)?)
 }
 

@@ -279,8 +279,9 @@ fn unwritable(tally: &mut Tally) {
             let output = File::open("/dev/null")?;
             run_into(command().args(["sale", sheet]), b"", output)
         });
+        let text = tally.succeeds(sheet, text_of(sheet));
         unwritten(tally, "read by nobody", UNWRITTEN, &|| {
-            run_unread(command().args(["sale", sheet]), b"")
+            run_unread(command().arg("sale"), text.as_bytes())
         });
     }
     for words in [&[][..], &["help", "sale"]] {

@@ -165,6 +165,6 @@ fn empty_program(tally: &mut Tally, folder: &Path) {
     command
         .args(["sale", "examples/table-3.sheet"])
         .current_dir(folder);
-    let end = End::saying(4, "hokewhuni: the program sale_main printed too little\n");
+    let end = End::saying(4, "hokewhuni: the program sale_main failed\n");
     tally.process_end("an empty program", || run(&mut command, b""), &end);
 }
