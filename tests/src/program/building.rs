@@ -7,7 +7,7 @@ use std::process::{Child, Command, Stdio};
 use std::thread::{self, sleep};
 use std::time::{Duration, Instant, SystemTime};
 
-use super::folder::Folder;
+use super::folder::{copy_executable, Folder};
 use super::in_repository;
 use crate::process::{end, run, run_within, Ended};
 use crate::tally::Tally;
@@ -83,20 +83,15 @@ impl Tree {
         for folder in ["bin", "crates/first/src", "crates/sale_main/src"] {
             told(fs::create_dir_all(tree.path(folder)))?;
         }
-        told(fs::copy(in_repository("hokewhuni"), tree.path("hokewhuni")))?;
+        copy_executable(&in_repository("hokewhuni"), &tree.path("hokewhuni"))?;
         tree.write(
             "crates.txt",
             "# a comment\nfirst:\nother: first\nsale_main: first io\n",
         )?;
         tree.write("crates/first/src/lib.rt", "one")?;
-        tree.write("bin/rt", RT)?;
+        tree.write("rt", RT)?;
+        copy_executable(&tree.path("rt"), &tree.path("bin/rt"))?;
         tree.write("go", "")?;
-        told(
-            Command::new("chmod")
-                .arg("+x")
-                .arg(tree.path("bin/rt"))
-                .status(),
-        )?;
         tree.edit("one")?;
         Ok(tree)
     }

@@ -1,6 +1,7 @@
 //! Folders for a test, which are gone after it.
 
 use std::path::{Path, PathBuf};
+use std::process::Command;
 use std::{env, fs, process};
 
 pub struct Folder {
@@ -25,5 +26,16 @@ impl Drop for Folder {
     fn drop(&mut self) {
         // What is left behind does no harm.
         let _ = fs::remove_dir_all(&self.path);
+    }
+}
+
+/// Copies a file that is to be run. A process of its own writes it: what another thread starts just
+/// then would have a file of ours still open for writing, and such a file cannot be run.
+pub fn copy_executable(from: &Path, to: &Path) -> Result<(), String> {
+    let mut install = Command::new("install");
+    let copied = install.args(["-m", "755"]).arg(from).arg(to).status();
+    match copied.map_err(|error| error.to_string())? {
+        status if status.success() => Ok(()),
+        status => Err(format!("{}: {status}", to.display())),
     }
 }

@@ -7,7 +7,7 @@ use std::process::Command;
 
 use super::building::SYSTEM;
 use super::examples::examples;
-use super::folder::Folder;
+use super::folder::{copy_executable, Folder};
 use super::{in_repository, BUILDING};
 use crate::process::{run, run_within, Ended};
 use crate::tally::{End, Tally};
@@ -156,11 +156,8 @@ fn not_a_folder(tally: &mut Tally, folder: &Path) {
 
 /// A program that prints nothing settles nothing.
 fn empty_program(tally: &mut Tally, folder: &Path) {
-    let emptied = fs::write(folder.join("programs/sale_main"), b"");
-    tally.succeeds(
-        "an empty program",
-        emptied.map_err(|error| error.to_string()),
-    );
+    let emptied = copy_executable(Path::new("/dev/null"), &folder.join("programs/sale_main"));
+    tally.succeeds("an empty program", emptied);
     let mut command = system(&folder.join("hokewhuni"));
     command
         .args(["sale", "examples/table-3.sheet"])
