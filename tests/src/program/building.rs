@@ -8,7 +8,7 @@ use std::thread::{self, sleep};
 use std::time::{Duration, Instant, SystemTime};
 
 use super::folder::{copy_executable, Folder};
-use super::in_repository;
+use super::{in_repository, told};
 use crate::process::{end, run, run_within, Ended};
 use crate::tally::Tally;
 
@@ -347,8 +347,4 @@ fn date(path: &Path, date: SystemTime) -> Result<(), String> {
 
 fn require(holds: bool, wrong: impl FnOnce() -> String) -> Result<(), String> {
     holds.then_some(()).ok_or_else(wrong)
-}
-
-fn told<T>(result: std::io::Result<T>) -> Result<T, String> {
-    result.map_err(|error| error.to_string())
 }

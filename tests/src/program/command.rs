@@ -8,7 +8,7 @@ use std::process::Command;
 use super::examples::examples;
 use super::folder::Folder;
 use super::inputs::KINDS;
-use super::{in_repository, BUILDING};
+use super::{in_repository, told, BUILDING};
 use crate::generator::Generator;
 use crate::process::{run, run_from, run_into, run_unread, run_within, Ended};
 use crate::reckoning::print::{print_sale, MOST_READ};
@@ -102,25 +102,25 @@ fn ends(tally: &mut Tally, words: &[&str], input: &[u8], end: &End) {
 
 /// The list names each command, and each has its help, by two names.
 fn help(tally: &mut Tally) {
-    let told = |words: &[&str]| match run(command().args(words), b"") {
+    let printed = |words: &[&str]| match run(command().args(words), b"") {
         Ok(ended) if ended.with(0) && ended.errors.is_empty() => {
-            String::from_utf8(ended.output).map_err(|error| error.to_string())
+            told(String::from_utf8(ended.output))
         }
         ended => Err(format!("{words:?}: {ended:?}")),
     };
-    let list = tally.succeeds("hokewhuni", told(&[]));
+    let list = tally.succeeds("hokewhuni", printed(&[]));
     for words in [["help"], ["--help"], ["-h"]] {
-        let text = tally.succeeds(words[0], told(&words));
+        let text = tally.succeeds(words[0], printed(&words));
         tally.text(words[0], text.as_bytes(), list.as_bytes());
     }
     for name in ["sale", "install", "help"] {
         let listed = list.contains(&format!("\n  {name} "));
         let missing = || format!("not in the list: {list}");
         tally.succeeds(name, listed.then_some(()).ok_or_else(missing));
-        let text = tally.succeeds(name, told(&["help", name]));
+        let text = tally.succeeds(name, printed(&["help", name]));
         let usage = text.starts_with(&format!("usage: hokewhuni {name} "));
         tally.succeeds(name, usage.then_some(()).ok_or_else(|| text.clone()));
-        let same = tally.succeeds(name, told(&[name, "--help"]));
+        let same = tally.succeeds(name, printed(&[name, "--help"]));
         tally.text(name, same.as_bytes(), text.as_bytes());
     }
 }
@@ -194,8 +194,8 @@ fn meanings(tally: &mut Tally) {
     }
 }
 
-fn text_of(path: &str) -> Result<String, String> {
-    fs::read_to_string(in_repository(path)).map_err(|error| error.to_string())
+fn text_of(path: &str) -> io::Result<String> {
+    fs::read_to_string(in_repository(path))
 }
 
 /// Files whose names have a blank, or a dash in front.
@@ -214,8 +214,7 @@ fn names(tally: &mut Tally, folder: &Path) {
         ("-", &["sale", "./-"]),
         ("*", &["sale", "-v", "--", "*"]),
     ] {
-        let written = fs::write(folder.join(name), &sheet).map_err(|error| error.to_string());
-        tally.succeeds(name, written);
+        tally.succeeds(name, fs::write(folder.join(name), &sheet));
         let named = || run(command().current_dir(folder).args(words), b"");
         tally.process_end(format_args!("hokewhuni {words:?}"), named, &end);
     }

@@ -4,7 +4,7 @@ use std::env;
 use std::path::PathBuf;
 use std::process::Command;
 
-use super::in_repository;
+use super::{in_repository, told};
 use crate::process::run;
 
 /// The warnings of the compiler, none of which may be given.
@@ -13,9 +13,7 @@ const FLAGS: [&str; 5] = ["-std=c11", "-Wall", "-Wextra", "-Wpedantic", "-Werror
 /// Compiles the program in a C file of the repository. It is put beside the running program.
 pub fn compile(source: &str) -> Result<PathBuf, String> {
     let source = in_repository(source);
-    let program = env::current_exe()
-        .map_err(|error| error.to_string())?
-        .with_file_name(source.file_stem().unwrap_or_default());
+    let program = told(env::current_exe())?.with_file_name(source.file_stem().unwrap_or_default());
     let mut command = Command::new("cc");
     command
         .args(FLAGS)

@@ -47,8 +47,8 @@ pub fn compare(tally: &mut Tally) {
 pub fn examples() -> Result<Vec<Example>, String> {
     let folder = in_repository("examples");
     let mut paths = Vec::new();
-    for entry in fs::read_dir(&folder).map_err(|error| told(&folder, &error))? {
-        paths.push(entry.map_err(|error| told(&folder, &error))?.path());
+    for entry in fs::read_dir(&folder).map_err(|error| wrong_in(&folder, &error))? {
+        paths.push(entry.map_err(|error| wrong_in(&folder, &error))?.path());
     }
     paths.retain(|path| path.extension().is_some_and(|ending| ending == "sheet"));
     paths.sort();
@@ -60,7 +60,7 @@ pub fn examples() -> Result<Vec<Example>, String> {
 }
 
 fn example(path: PathBuf) -> Result<Example, String> {
-    let read = |path: &Path| fs::read(path).map_err(|error| told(path, &error));
+    let read = |path: &Path| fs::read(path).map_err(|error| wrong_in(path, &error));
     Ok(Example {
         sheet: read(&path)?,
         sale: read(&path.with_extension("sale"))?,
@@ -68,6 +68,6 @@ fn example(path: PathBuf) -> Result<Example, String> {
     })
 }
 
-fn told(path: &Path, error: &io::Error) -> String {
+fn wrong_in(path: &Path, error: &io::Error) -> String {
     format!("{}: {error}", path.display())
 }

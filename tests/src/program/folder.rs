@@ -4,6 +4,8 @@ use std::path::{Path, PathBuf};
 use std::process::Command;
 use std::{env, fs, process};
 
+use super::told;
+
 pub struct Folder {
     path: PathBuf,
 }
@@ -34,7 +36,7 @@ impl Drop for Folder {
 pub fn copy_executable(from: &Path, to: &Path) -> Result<(), String> {
     let mut install = Command::new("install");
     let copied = install.args(["-m", "755"]).arg(from).arg(to).status();
-    match copied.map_err(|error| error.to_string())? {
+    match told(copied)? {
         status if status.success() => Ok(()),
         status => Err(format!("{}: {status}", to.display())),
     }

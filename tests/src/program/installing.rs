@@ -8,7 +8,7 @@ use std::process::Command;
 use super::building::SYSTEM;
 use super::examples::examples;
 use super::folder::{copy_executable, Folder};
-use super::{in_repository, BUILDING};
+use super::{in_repository, told, BUILDING};
 use crate::process::{run, run_within, Ended};
 use crate::tally::{End, Tally};
 
@@ -20,6 +20,9 @@ const FILES: [&str; 5] = [
     "include/hokewhuni.h",
     "docs/TEACHER.md",
 ];
+
+/// What is printed of table 3.
+const TABLE_3: &str = "examples/table-3.sale";
 
 /// A program in C, with what was installed.
 const COMPILE: &str = "cc -std=c11 -Iinclude examples/office.c lib/libhokewhuni.a -o office";
@@ -63,7 +66,7 @@ fn system(program: &Path) -> Command {
 
 /// It ends with status 0, and says where the command is.
 fn installed(ended: std::io::Result<Ended>, folder: &Path) -> Result<(), String> {
-    let ended = ended.map_err(|error| error.to_string())?;
+    let ended = told(ended)?;
     let line = format!("installed: {}/hokewhuni\n", folder.display());
     let right = ended.with(0) && ended.output == line.as_bytes();
     right.then_some(()).ok_or_else(|| format!("{ended:?}"))
@@ -73,12 +76,11 @@ fn installed(ended: std::io::Result<Ended>, folder: &Path) -> Result<(), String>
 fn files(tally: &mut Tally, folder: &Path) {
     for file in FILES {
         let there = folder.join(file).is_file();
-        tally.succeeds(file, there.then_some(()).ok_or("not installed".to_string()));
+        tally.succeeds(file, there.then_some(()).ok_or("not installed"));
     }
     for file in ["hokewhuni", "include/hokewhuni.h", "docs/TEACHER.md"] {
-        let read = |path: &Path| fs::read(path).map_err(|error| error.to_string());
-        let ours = tally.succeeds(file, read(&in_repository(file)));
-        let theirs = tally.succeeds(file, read(&folder.join(file)));
+        let ours = tally.succeeds(file, fs::read(in_repository(file)));
+        let theirs = tally.succeeds(file, fs::read(folder.join(file)));
         tally.text(file, &theirs, &ours);
     }
 }
@@ -102,11 +104,9 @@ fn sales(tally: &mut Tally, folder: &Path) {
 /// The command by a link to it, from another folder.
 fn linked(tally: &mut Tally, other: &Path, folder: &Path) {
     let link = other.join("link");
-    let linked = symlink(folder.join("hokewhuni"), &link).map_err(|error| error.to_string());
-    tally.succeeds("a link", linked);
+    tally.succeeds("a link", symlink(folder.join("hokewhuni"), &link));
     let sheet = in_repository("examples/table-3.sheet");
-    let sale = fs::read(in_repository("examples/table-3.sale"));
-    let sale = tally.succeeds("table 3", sale.map_err(|error| error.to_string()));
+    let sale = tally.succeeds("table 3", fs::read(in_repository(TABLE_3)));
     let run = || run(system(&link).current_dir(other).arg("sale").arg(sheet), b"");
     tally.process("hokewhuni sale by a link", run, &sale);
 }
@@ -117,7 +117,7 @@ fn c_program(tally: &mut Tally, folder: &Path) {
     compile.args(["-c", COMPILE]).current_dir(folder);
     tally.process(COMPILE, || run(&mut compile, b""), b"");
     let expected = fs::read(in_repository("examples/office.out"));
-    let expected = tally.succeeds("office.out", expected.map_err(|error| error.to_string()));
+    let expected = tally.succeeds("office.out", expected);
     let mut office = system(&folder.join("office"));
     office.arg("examples/example.sheet").current_dir(folder);
     tally.process("an installed office", || run(&mut office, b""), &expected);
@@ -125,8 +125,7 @@ fn c_program(tally: &mut Tally, folder: &Path) {
 
 /// The Rust example, too.
 fn rust_program(tally: &mut Tally, folder: &Path) {
-    let sale = fs::read(in_repository("examples/table-3.sale"));
-    let sale = tally.succeeds("table 3", sale.map_err(|error| error.to_string()));
+    let sale = tally.succeeds("table 3", fs::read(in_repository(TABLE_3)));
     let mut cargo = Command::new("cargo");
     cargo
         .args(["run", "--quiet", "--offline", "--example", "sale"])

@@ -6,7 +6,7 @@ use std::path::Path;
 use std::process::Command;
 
 use super::folder::Folder;
-use super::in_repository;
+use super::{in_repository, told};
 use crate::process::run;
 use crate::tally::Tally;
 
@@ -35,10 +35,8 @@ pub fn compare(tally: &mut Tally) {
         }
         for file in &files {
             let out = Path::new("out").join(file);
-            let [here, there] = [Path::new(file), &out].map(|path| {
-                let bytes = fs::read(folder.path().join(path));
-                tally.succeeds(path.display(), bytes.map_err(|error| error.to_string()))
-            });
+            let [here, there] = [Path::new(file), &out]
+                .map(|path| tally.succeeds(path.display(), fs::read(folder.path().join(path))));
             tally.text(file, &there, &here);
         }
     });
@@ -49,9 +47,8 @@ fn copy(folder: &Path) -> Result<Vec<String>, String> {
     let mut files = ["hokewhuni", ".ci/run", ".gitattributes"]
         .map(String::from)
         .to_vec();
-    let examples = fs::read_dir(in_repository("examples")).map_err(|error| error.to_string())?;
-    for entry in examples {
-        let name = entry.map_err(|error| error.to_string())?.file_name();
+    for entry in told(fs::read_dir(in_repository("examples")))? {
+        let name = told(entry)?.file_name();
         files.push(format!("examples/{}", name.to_string_lossy()));
     }
     for file in &files {

@@ -3,6 +3,7 @@
 //! built for it; and of the teacher's page.
 
 use std::env;
+use std::fmt::Display;
 use std::path::{Path, PathBuf};
 use std::process::Command;
 use std::time::Duration;
@@ -53,6 +54,11 @@ pub fn compare(tally: &mut Tally, generator: &mut Generator) {
 /// A path in the repository.
 fn in_repository(path: &str) -> PathBuf {
     Path::new(env!("CARGO_MANIFEST_DIR")).join("..").join(path)
+}
+
+/// An error as what is told of it.
+fn told<T>(result: Result<T, impl Display>) -> Result<T, String> {
+    result.map_err(|error| error.to_string())
 }
 
 /// The program. HOKEWHUNI_SALE names another.

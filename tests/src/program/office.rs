@@ -35,9 +35,8 @@ pub fn compare(tally: &mut Tally) {
 /// The whole output of the first example, named and on standard input.
 fn whole(tally: &mut Tally, office: &Path) {
     let [sheet, output] = ["examples/example.sheet", "examples/office.out"].map(in_repository);
-    let read = |path: &Path| fs::read(path).map_err(|error| error.to_string());
-    let expected = tally.succeeds("examples/office.out", read(&output));
-    let bytes = tally.succeeds("examples/example.sheet", read(&sheet));
+    let expected = tally.succeeds("examples/office.out", fs::read(output));
+    let bytes = tally.succeeds("examples/example.sheet", fs::read(&sheet));
     let named = || run(Command::new(office).arg(&sheet), b"");
     tally.process("office, given the example's name", named, &expected);
     let piped = || run(&mut Command::new(office), &bytes);

@@ -13,8 +13,8 @@ use hokewhuni::Refusal::{self, *};
 
 use super::examples::examples;
 use super::header::LONGEST_PRINT;
-use super::in_repository;
 use super::inputs::KINDS;
+use super::{in_repository, told};
 use crate::generator::Generator;
 use crate::process::{run, run_from, run_into, run_within, Ended};
 use crate::reckoning::print::{LONGEST_RECORD, MOST_READ};
@@ -85,7 +85,7 @@ fn numbers() -> Result<(), String> {
 /// Each refusal says what the header says of its number, and may say more.
 fn words() -> Result<(), String> {
     let header = in_repository("include/hokewhuni.h");
-    let header = fs::read_to_string(header).map_err(|error| error.to_string())?;
+    let header = told(fs::read_to_string(header))?;
     let meanings = meanings(&header);
     for (at, refusal) in REFUSALS.into_iter().enumerate() {
         let meaning = meanings.get(at).map_or("", String::as_str);
@@ -123,7 +123,7 @@ fn meanings(header: &str) -> Vec<String> {
 fn without_library() -> Result<(), String> {
     let mut command = cargo("check")?;
     command.env("HOKEWHUNI_LIB", in_repository("examples"));
-    let ended = run_within(&mut command, LIMIT).map_err(|error| error.to_string())?;
+    let ended = told(run_within(&mut command, LIMIT))?;
     let errors = String::from_utf8_lossy(&ended.errors);
     let said = "which has no libhokewhuni.a: run `rt staticlib hokewhuni` in the repository";
     match ended.status {
@@ -165,8 +165,7 @@ fn cargo(name: &str) -> Result<Command, String> {
 
 /// What is built is put beside the running program.
 fn folder() -> Result<PathBuf, String> {
-    let program = env::current_exe().map_err(|error| error.to_string())?;
-    Ok(program.with_file_name("crate"))
+    Ok(told(env::current_exe())?.with_file_name("crate"))
 }
 
 /// What a command writes that has to succeed without a warning.

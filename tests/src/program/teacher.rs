@@ -15,9 +15,8 @@ const SHEET: &str = "examples/table-3.sheet";
 
 pub fn compare(tally: &mut Tally) {
     tally.group("the teacher's page", |tally| {
-        let read = |path| fs::read(in_repository(path)).map_err(|error| error.to_string());
-        let page = tally.succeeds(PAGE, read(PAGE));
-        let bytes = tally.succeeds(SHEET, read(SHEET));
+        let page = tally.succeeds(PAGE, fs::read(in_repository(PAGE)));
+        let bytes = tally.succeeds(SHEET, fs::read(in_repository(SHEET)));
         let sheet = read_sheet(&bytes).map_err(|refusal| format!("{refusal:?}"));
         let rows = tally.succeeds(SHEET, sheet.map(|sheet| rows(&sheet)));
         let table = table(&String::from_utf8_lossy(&page));

@@ -119,7 +119,11 @@ impl Tally {
     }
 
     /// Counts what has to succeed; after a failure there is nothing.
-    pub fn succeeds<T: Default>(&mut self, what: impl Display, result: Result<T, String>) -> T {
+    pub fn succeeds<T: Default>(
+        &mut self,
+        what: impl Display,
+        result: Result<T, impl Display>,
+    ) -> T {
         let (value, differences) = match result {
             Ok(value) => (value, Vec::new()),
             Err(error) => (T::default(), vec![format!("  {error}")]),
