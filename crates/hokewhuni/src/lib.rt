@@ -4,6 +4,7 @@ ghost use Rattle.sheet.specs.Answers.{sheetRead, worthsRead};
 ghost use Rattle.sale.specs.Answers.{demandAnswer, SaleSays};
 ghost use Rattle.direct.specs.Answers.{directAnswer};
 ghost use Rattle.printed.specs.Printed.{PrintSays};
+ghost use Rattle.writing.specs.Answers.{WriteSays};
 ghost use Rattle.hokewhuni.specs.Boundary.{fieldAnswer};
 use direct::Direct;
 use fields::Field;
@@ -11,6 +12,7 @@ use sale::Demand;
 use sale::Sale;
 use sheet::Read;
 use sheet::Worths;
+use writing::Wrote;
 
 // One field's answer as numbers: 0 and the field's number, or 6 and the faulty offset; and the next column.
 #[repr(C)]
@@ -82,4 +84,12 @@ pub extern "C" fn hokewhuni_print_sale(sheet: &[u8], log: &mut [u8], out: &mut [
     ensures { λ r. ⌜ PrintSays (now (sheet .entry)) (now (log .entry)) (now (log .exit)) (now (out .entry)) (now (out .exit)) r ⌝ }
 {
     printed::print_sale(sheet, log, out)
+}
+
+// Writes nothing where a question gets a no.
+#[no_mangle]
+pub extern "C" fn hokewhuni_write_sheet(buyers: u32, lots: u32, worths: &[u32], out: &mut [u8]) -> Wrote
+    ensures { λ r. ⌜ WriteSays buyers lots (now (worths .entry)) (now (out .entry)) (now (out .exit)) r ⌝ }
+{
+    writing::write_sheet(buyers, lots, worths, out)
 }

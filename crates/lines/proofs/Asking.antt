@@ -28,7 +28,7 @@ refused-by : (q n x : ℕ) (f : Fault) (rest : Unit {0} → Fault) → f ≡ ask
 refused-by q n zero f rest e h = absurd (h (ap (λ (g : Fault). g .number) e))
 refused-by q n (suc k) f rest e h = e
 
-passed-by : (q n x : ℕ) (f : Fault) → f ≡ askedAlone (suc q) n x → f .number ≡ 0 → x ≡ 0
+pub passed-by : (q n x : ℕ) (f : Fault) → f ≡ askedAlone (suc q) n x → f .number ≡ 0 → x ≡ 0
 passed-by q n zero f e h = refl
 passed-by q n (suc k) f e h = absurd (let z : f .number ≡ suc q = ap (λ (g : Fault). g .number) e in omega arith)
 

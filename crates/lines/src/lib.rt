@@ -10,7 +10,7 @@ use numbers::power;
 use sheet::Fault;
 
 // The bundles of so many lots, the empty one among them.
-fn bundles(lots: usize) -> usize
+pub fn bundles(lots: usize) -> usize
     requires { ⌜ lots ≤ 4 ⌝ }
     ensures { λ r. ⌜ Is (2 ^ lots) r 16 ⌝ }
 {
@@ -134,7 +134,7 @@ fn wrong_at(question: u8, sheet: &[u8], numbers: &[u32; 96], n: usize, i: usize,
 }
 
 // Question 6, 7 or 8, put to every place of the lines: the fault at the first that is wrong.
-fn ask_each(question: u8, sheet: &[u8], numbers: &[u32; 96], m: usize, n: usize) -> Fault
+pub fn ask_each(question: u8, sheet: &[u8], numbers: &[u32; 96], m: usize, n: usize) -> Fault
     requires { ⌜ (m ≤ 6) × (n ≤ 4) ⌝ }
     ensures { λ r. ⌜ r ≡ askEach question n (firstWrong question (now (sheet .entry)) (asSheet m n (now (numbers .entry)))) (λ _. fault 0 0) ⌝ }
 {

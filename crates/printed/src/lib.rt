@@ -32,7 +32,8 @@ fn put_lots(out: &mut [u8], owners: [u8; 4], lots: usize)
         let at = 13 * j;
         let lot = (j + 1) as u32;
         let owner = number(owners[j]);
-        put_line(&mut out[at..], [lot, owner, 0, 0], 2);
+        let line = [lot, owner];
+        put_line(&mut out[at..], &line);
         j += 1;
     }
 }
@@ -58,7 +59,8 @@ fn put_buyers(
         let buyer = (i + 1) as u32;
         let d = discounts[i];
         let due = payments[i];
-        put_line(&mut out[at..], [buyer, p, d, due], 4);
+        let line = [buyer, p, d, due];
+        put_line(&mut out[at..], &line);
         i += 1;
     }
 }
@@ -71,7 +73,8 @@ fn put_refusal(out: &mut [u8], number: u32, place: u32) -> usize
     if out.len() < 13 {
         return 0;
     }
-    put_line(out, [number, place, 0, 0], 2);
+    let line = [number, place];
+    put_line(out, &line);
     13
 }
 
@@ -94,7 +97,8 @@ fn put_settled(
     if out.len() < end {
         return 0;
     }
-    put_line(out, [0, buyers as u32, lots as u32, rounds], 4);
+    let first = [0, buyers as u32, lots as u32, rounds];
+    put_line(out, &first);
     put_lots(&mut out[25..], owners, lots);
     put_buyers(
         &mut out[at..],

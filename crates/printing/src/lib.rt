@@ -3,7 +3,7 @@ ghost use mathlib.Core.Path.{_≡_};
 ghost use mathlib.Core.Bool.{_||_};
 ghost use Prim.Native.Nat.{ℕ, _*_, _≤_, _<_};
 ghost use lib.Dec.{eqb, leb};
-ghost use lib.ListN.{length, take, getD};
+ghost use lib.ListN.{length, getD};
 ghost use Rattle.theory.specs.Lists.{over};
 ghost use Rattle.fields.specs.Fields.{columns, lineOf};
 
@@ -42,11 +42,12 @@ fn put_field(out: &mut [u8], n: u32)
     }
 }
 
-// Writes the first `count` of four numbers at the front of a buffer, as a line.
-pub fn put_line(out: &mut [u8], numbers: [u32; 4], count: usize)
-    requires { ⌜ (count ≤ 4) × (6 * count < length (now out)) × ((k : ℕ) → getD numbers k 0 < 1000000) ⌝ }
-    ensures { λ _. ⌜ now (out .exit) ≡ over (lineOf (take count numbers)) (now (out .entry)) ⌝ }
+// Writes numbers at the front of a buffer, as a line.
+pub fn put_line(out: &mut [u8], numbers: &[u32])
+    requires { ⌜ (6 * length (now numbers) < length (now out)) × ((k : ℕ) → getD (now numbers) k 0 < 1000000) ⌝ }
+    ensures { λ _. ⌜ now (out .exit) ≡ over (lineOf (now (numbers .entry))) (now (out .entry)) ⌝ }
 {
+    let count = numbers.len();
     let mut k: usize = 0;
     while k < count {
         let at = 6 * k;

@@ -1,9 +1,10 @@
--- A sheet in which a table of worths is written is accepted, and read as that table (`written-accepted`); one with bytes missing at its end is refused
--- (`prefix-refused`). `sheets-all` has all the theorems about sheets. Assumes nothing.
+-- A sheet in which a table of six-column numbers is written is read as that table (`written-read`), and gets a "yes" to
+-- questions 1 to 6 (`written-asked`); with worths that grow it is accepted (`written-accepted`). One with bytes missing
+-- at its end is refused (`prefix-refused`). `sheets-all` has all the theorems about sheets. Assumes nothing.
 use mathlib.Core.Path.{_≡_, refl, sym, ap, subst, _∙_}
 use mathlib.Core.Logic.{_≢_}
 use mathlib.Core.List.{List, _++_}
-use Prim.Native.Nat.{ℕ, zero, suc, _+_, _*_, _/_, _%_, _^_, _≤_, _<_}
+use Prim.Native.Nat.{ℕ, zero, suc, _+_, _-_, _*_, _/_, _%_, _^_, _≤_, _<_}
 use native.Mathlib.Nat.{suc-mul, mul-le-mul-right}
 use native.Mathlib.Omega.{arith}
 use native.Mathlib.Decide.{decLt}
@@ -15,48 +16,50 @@ use Rattle.fields.proofs.Canonical.{field-canonical}
 use Rattle.sheet.specs.Sheets.{lineLength, offset, Sheet, asSheet, sheetOf, worth, worthIn, worthPlace, worthsIn}
 use Rattle.sheet.specs.Sheets.{bytesOf}
 use Rattle.sheet.specs.Questions.{sheetFault}
-use Rattle.sheet.specs.Claims.{questions, Shape, Grows, Sheets}
+use Rattle.sheet.specs.Claims.{questions, Question, Shape, Grows, Sheets}
 use Rattle.sheet.proofs.Places.{cell-empty, cell-nobody, cell-nothing, cell-there}
+use Rattle.sheet.proofs.Valued.{Bounded}
 use Rattle.sheet.proofs.Faults.{first-no, all-yes}
 use Rattle.sheet.proofs.Long.{field-front, long-refused, long-alike}
 use Rattle.sheet.proofs.Writing.{Written, bytes-written, written-same}
 use Rattle.sheet.proofs.Theorems.{refusal-range, place-zero, place-inside, place-least, accepted-shape, accepted-monotone, accepted-written}
 
-module _ (b : List ℕ) (w : Sheet) (shape : Shape w) (written : Written b w) where
+module _ (b : List ℕ) (w : Sheet) (buyers : (1 ≤ w .buyers) × (w .buyers ≤ 6)) (lots : (1 ≤ w .lots) × (w .lots ≤ 4))
+    (known : Bounded w 999999) (written : Written b w) where
   abbrev m : ℕ
   m = w .buyers
 
   abbrev n : ℕ
   n = w .lots
 
-  field-read : (at v : ℕ) → at + 6 ≤ length b → v ≤ 9999 → take 6 (drop at b) ≡ columns 6 v → fieldAt at b ≡ Number v
-  field-read at v room small e = field-canonical b at v .1 (room, omega arith, e)
+  field-read : (at v : ℕ) → at + 6 ≤ length b → v ≤ 999999 → take 6 (drop at b) ≡ columns 6 v → fieldAt at b ≡ Number v
+  field-read at v room small e = field-canonical b at v .1 (room, small, e)
 
   buyers-read : fieldAt 0 b ≡ Number m
-  buyers-read = field-read 0 m (omega (arith, written .long)) (omega (arith, shape .few-buyers)) (written .buyers)
+  buyers-read = field-read 0 m (omega (arith, written .long)) (omega (arith, buyers)) (written .buyers)
 
   lots-read : fieldAt 6 b ≡ Number n
-  lots-read = field-read 6 n (omega (arith, written .long)) (omega (arith, shape .few-lots)) (written .lots)
+  lots-read = field-read 6 n (omega (arith, written .long)) (omega (arith, lots)) (written .lots)
 
   worth-read : (i c : ℕ) → i < m → suc c < 2 ^ n → fieldAt (offset n i c) b ≡ Number (worth w i (suc c))
   worth-read i c h g =
       field-read (offset n i c) (worth w i (suc c))
       (omega (arith, written .long, suc-mul i (lineLength n), mul-le-mul-right {m = suc i} {n = m} (lineLength n) h))
-      (shape .small (16 * i + suc c)) (written .worths i c h g)
+      (known .small (16 * i + suc c)) (written .worths i c h g)
 
   place-same : (i s : ℕ) → s < 16 → worth w i s ≡ worthPlace m n b i s
   place-same i s l =
       elim (decLt i m) [
-        | no h ↦ shape .nobody i s l (omega arith) ∙ cell-nobody m n (worthIn n b) i s (omega arith)
+        | no h ↦ known .nobody i s l (omega arith) ∙ cell-nobody m n (worthIn n b) i s (omega arith)
         | yes h ↦
             elim (decLt s (2 ^ n)) [
-              | no g ↦ shape .nothing i s l (omega arith) ∙ cell-nothing m n (worthIn n b) i s (omega arith)
+              | no g ↦ known .nothing i s l (omega arith) ∙ cell-nothing m n (worthIn n b) i s (omega arith)
               | yes g ↦ present i s h g
             ]
       ]
     where
       present : (i s : ℕ) → i < m → s < 2 ^ n → worth w i s ≡ worthPlace m n b i s
-      present i zero h g = shape .empty i ∙ cell-empty m n (worthIn n b) i 0 (λ _. refl) refl
+      present i zero h g = known .empty i ∙ cell-empty m n (worthIn n b) i 0 (λ _. refl) refl
       present i (suc c) h g = sym (ap numberOf (worth-read i c h g)) ∙ cell-there m n (worthIn n b) i (suc c) h g
 
   worths-same : worthsIn m n b ≡ w .worths
@@ -65,27 +68,64 @@ module _ (b : List ℕ) (w : Sheet) (shape : Shape w) (written : Written b w) wh
       sym
       (filled-all (λ k. worthPlace m n b (k / 16) (k % 16)) 96 96 (w .worths) (omega arith)
       (record {
-        long = shape .long;
+        long = known .long;
         done = λ k h. let whole : 16 * (k / 16) + k % 16 ≡ k = omega arith in rw whole at (place-same (k / 16) (k % 16) (omega arith));
       }))
 
-  same-sheet : sheetOf b ≡ w
-  same-sheet = rw (ap numberOf buyers-read, ap numberOf lots-read) (ap (asSheet m n) worths-same)
+  pub written-read : sheetOf b ≡ w
+  written-read = rw (ap numberOf buyers-read, ap numberOf lots-read) (ap (asSheet m n) worths-same)
 
-  pub written-accepted : Grows w → (sheetFault b .number ≡ 0) × (sheetOf b ≡ w)
-  written-accepted grows = (all-yes b .1 (subst (λ x. (k : ℕ) → getD (questions b x) k (Unit {0})) (sym same-sheet) told), same-sheet)
+  -- a question of the table is one of the bytes
+  of-bytes : (k : ℕ) → getD (questions b w) k (Unit {0}) → Question b k
+  of-bytes k = subst (λ x. getD (questions b x) k (Unit {0})) (sym written-read)
+
+  pub written-asked : (k : ℕ) → k < 7 → Question b k
+  written-asked k h = of-bytes k (told k h)
     where
-      told : (k : ℕ) → getD (questions b w) k (Unit {0})
-      told zero = tt
-      told (suc zero) = omega (arith, written .long)
-      told (suc (suc zero)) = ((m, buyers-read), (n, lots-read), written .head-end)
-      told (suc (suc (suc zero))) = (shape .some-buyers, shape .few-buyers)
-      told (suc (suc (suc (suc zero)))) = (shape .some-lots, shape .few-lots)
-      told (suc (suc (suc (suc (suc zero))))) = written .long
-      told (suc (suc (suc (suc (suc (suc zero)))))) = (λ i c h g. (worth w i (suc c), worth-read i c h g), written .ends)
-      told (suc (suc (suc (suc (suc (suc (suc zero))))))) = λ i s h g. shape .small (16 * i + s)
-      told (suc (suc (suc (suc (suc (suc (suc (suc zero)))))))) = λ i s j h g l t _. grows i s j h g l t
-      told (suc (suc (suc (suc (suc (suc (suc (suc (suc k))))))))) = tt
+      told : (k : ℕ) → k < 7 → getD (questions b w) k (Unit {0})
+      told zero h = tt
+      told (suc zero) h = omega (arith, written .long)
+      told (suc (suc zero)) h = ((m, buyers-read), (n, lots-read), written .head-end)
+      told (suc (suc (suc zero))) h = buyers
+      told (suc (suc (suc (suc zero)))) h = lots
+      told (suc (suc (suc (suc (suc zero))))) h = written .long
+      told (suc (suc (suc (suc (suc (suc zero)))))) h = (λ i c h g. (worth w i (suc c), worth-read i c h g), written .ends)
+      told (suc (suc (suc (suc (suc (suc (suc k))))))) h = absurd (omega arith)
+
+pub written-accepted : (b : List ℕ) (w : Sheet) → Shape w → Written b w → Grows w →
+    (sheetFault b .number ≡ 0) × (sheetOf b ≡ w)
+written-accepted b w shape written grows = (all-yes b .1 told, same)
+  where
+    buyers : (1 ≤ w .buyers) × (w .buyers ≤ 6)
+    buyers = (shape .some-buyers, shape .few-buyers)
+
+    lots : (1 ≤ w .lots) × (w .lots ≤ 4)
+    lots = (shape .some-lots, shape .few-lots)
+
+    known : Bounded w 999999
+    known =
+        record {
+          long = shape .long;
+          small = λ k. omega (arith, shape .small k);
+          empty = shape .empty;
+          nobody = shape .nobody;
+          nothing = shape .nothing;
+        }
+
+    same : sheetOf b ≡ w
+    same = written-read b w buyers lots known written
+
+    told : (k : ℕ) → Question b k
+    told k =
+        elim (decLt k 7) [
+          | yes h ↦ written-asked b w buyers lots known written k h
+          | no h ↦ let e : suc (suc (suc (suc (suc (suc (suc (k - 7))))))) ≡ k = omega arith in rw e at (later (k - 7))
+        ]
+      where
+        later : (j : ℕ) → Question b (suc (suc (suc (suc (suc (suc (suc j)))))))
+        later zero = of-bytes b w buyers lots known written 7 (λ i s _ _. shape .small (16 * i + s))
+        later (suc zero) = of-bytes b w buyers lots known written 8 (λ i s j h g l t _. grows i s j h g l t)
+        later (suc (suc j)) = tt
 
 pub prefix-refused : (a c : List ℕ) → sheetFault (a ++ c) .number ≡ 0 → 0 < length c → sheetFault a .number ≢ 0
 prefix-refused a c whole some part =

@@ -1,23 +1,13 @@
--- A table's worths, by line and bundle, as a sheet has them: those of absent buyers and bundles are 0 (`cell`); sixteen
--- to a line (`cellAt`). Offers what stands at a place of the empty bundle, an absent buyer, an absent bundle, and one
--- that there is, and a bound. Assumes nothing.
+-- A table's worths as a sheet has them (`cell`): what stands at a place of the empty bundle, an absent buyer, an absent
+-- bundle, and one that there is, and a bound. Assumes nothing.
 use mathlib.Core.Path.{_≡_, sym}
-use mathlib.Core.Bool.{_&&_}
-use Prim.Native.Nat.{ℕ, _/_, _%_, _^_, _<_, _≤_}
+use Prim.Native.Nat.{ℕ, _^_, _<_, _≤_}
 use native.Mathlib.Omega.{arith}
 use lib.Dec.{ltb}
 use borrow.Author.Tests.{lt-ltb, le-ltb, ltb-true}
-use Rattle.theory.specs.Sums.{when}
 use Rattle.theory.specs.Markets.{Table}
 use Rattle.theory.proofs.Tests.{by-test}
-
--- of bundle s on line i; lines are counted from 0
-abbrev pub cell : ℕ → ℕ → Table → ℕ → ℕ → ℕ
-cell m n v i s = when (ltb i m && ltb s (2 ^ n)) (v i s)
-
--- of place k
-abbrev pub cellAt : ℕ → ℕ → Table → ℕ → ℕ
-cellAt m n v k = cell m n v (k / 16) (k % 16)
+use Rattle.sheet.specs.Tables.{cell}
 
 module _ (m n : ℕ) (v : Table) where
   pub cell-nobody : (i s : ℕ) → m ≤ i → 0 ≡ cell m n v i s

@@ -1,28 +1,39 @@
--- A table of worths, by line and bundle, as a sheet (`tableSheet`). If the table is `Tabled`, the sheet has its worths
--- (`table-worth`), a shape (`table-shape`), and worths that grow (`table-grows`), so its bytes are accepted and read as
--- it is (`table-accepted`). Assumes nothing.
-use mathlib.Core.Path.{_≡_}
+-- A table's sheet (`tableSheet`) has its worths (`table-there`), bounded as they are (`table-bounded`), and 0 for the
+-- empty bundle (`table-empty`). If the table is `Tabled`, it has a shape (`table-shape`) and worths that grow
+-- (`table-grows`), so its bytes are accepted and read as it is (`table-accepted`). Assumes nothing.
+use mathlib.Core.Path.{_≡_, refl}
 use mathlib.Core.Bool.{true}
-use mathlib.Core.List.{List}
 use Prim.Native.Nat.{ℕ, _-_, _^_, _≤_, _<_}
 use native.Mathlib.Omega.{arith}
-use Rattle.theory.specs.Lists.{tabulate}
 use Rattle.theory.specs.Markets.{Table}
 use Rattle.theory.proofs.Loops.{Filled, filled-tabulate}
 use Rattle.numbers.specs.Numbers.{bit}
-use Rattle.sheet.specs.Sheets.{Sheet, asSheet, sheetOf, worth, bytesOf}
+use Rattle.sheet.specs.Sheets.{Sheet, sheetOf, worth, bytesOf}
+use Rattle.sheet.specs.Tables.{cellAt, cells, tableSheet}
 use Rattle.sheet.specs.Questions.{sheetFault}
 use Rattle.sheet.specs.Claims.{Shape, Grows}
-use Rattle.sheet.proofs.Places.{cellAt}
-use Rattle.sheet.proofs.Valued.{worth-there, laid-shape}
+use Rattle.sheet.proofs.Places.{cell-empty}
+use Rattle.sheet.proofs.Valued.{Bounded, worth-none, worth-there, laid-bounded, laid-shape}
 use Rattle.sheet.proofs.Accepting.{sheets-all}
 
--- the table's worths, sixteen to a line
-unfoldable pub cells : ℕ → ℕ → Table → List ℕ
-cells m n v = tabulate 96 0 (cellAt m n v)
+module _ (m n : ℕ) (v : Table) where
+  abbrev u : Sheet
+  u = tableSheet m n v
 
-abbrev pub tableSheet : ℕ → ℕ → Table → Sheet
-tableSheet m n v = asSheet m n (cells m n v)
+  laid : Filled (cellAt m n v) 96 96 (cells m n v)
+  unfolding cells
+  laid = filled-tabulate (cellAt m n v) 96
+
+  pub table-there : m ≤ 6 → n ≤ 4 → (i s : ℕ) → i < m → s < 2 ^ n → worth u i s ≡ v i s
+  table-there = worth-there m n v (cells m n v) laid
+
+  pub table-empty : ((i : ℕ) → i < m → v i 0 ≡ 0) → (i : ℕ) → worth u i 0 ≡ 0
+  table-empty free i =
+      worth-none m n v (cells m n v) laid i 0 (omega arith) (cell-empty m n v i 0 (free i) refl)
+
+  pub table-bounded : (c : ℕ) → ((i : ℕ) → i < m → v i 0 ≡ 0) → ((i s : ℕ) → i < m → s < 2 ^ n → v i s ≤ c) →
+      Bounded u c
+  table-bounded = laid-bounded m n v (cells m n v) laid
 
 -- m and n as rule 1.2 has them, worths as rule 1.4 has them, and a bundle worth at least as much as with one lot fewer
 pub record Tabled (m n : ℕ) (v : Table) : Type 0 where
@@ -33,22 +44,16 @@ pub record Tabled (m n : ℕ) (v : Table) : Type 0 where
   pub grows : (i s j : ℕ) → i < m → s < 2 ^ n → j < n → bit j s ≡ true → v i (s - 2 ^ j) ≤ v i s
 
 module _ (m n : ℕ) (v : Table) (known : Tabled m n v) where
-  abbrev u : Sheet
-  u = tableSheet m n v
+  pub table-worth : (i s : ℕ) → i < m → s < 2 ^ n → worth (u m n v) i s ≡ v i s
+  table-worth = table-there m n v (known .buyers .1) (known .lots .1)
 
-  laid : Filled (cellAt m n v) 96 96 (cells m n v)
-  unfolding cells
-  laid = filled-tabulate (cellAt m n v) 96
+  pub table-shape : Shape (u m n v)
+  table-shape =
+      laid-shape m n v (cells m n v) (laid m n v) (known .buyers) (known .lots) (known .empty) (known .small)
 
-  pub table-worth : (i s : ℕ) → i < m → s < 2 ^ n → worth u i s ≡ v i s
-  table-worth = worth-there m n v (cells m n v) laid (known .buyers .1) (known .lots .1)
-
-  pub table-shape : Shape u
-  table-shape = laid-shape m n v (cells m n v) laid (known .buyers) (known .lots) (known .empty) (known .small)
-
-  pub table-grows : Grows u
+  pub table-grows : Grows (u m n v)
   table-grows i s j g h l t =
       rw (table-worth i s g h, table-worth i (s - 2 ^ j) g (omega arith)) (known .grows i s j g h l t)
 
-  pub table-accepted : (sheetFault (bytesOf u) .number ≡ 0) × (sheetOf (bytesOf u) ≡ u)
-  table-accepted = sheets-all .bytes-accepted u table-shape table-grows
+  pub table-accepted : (sheetFault (bytesOf (u m n v)) .number ≡ 0) × (sheetOf (bytesOf (u m n v)) ≡ u m n v)
+  table-accepted = sheets-all .bytes-accepted (u m n v) table-shape table-grows

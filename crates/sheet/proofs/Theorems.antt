@@ -25,8 +25,9 @@ use Rattle.sheet.proofs.Writing.{Written}
 use Rattle.fields.proofs.Canonical.{field-canonical}
 use Rattle.numbers.proofs.Subsets.{subset-monotone}
 use Rattle.sheet.proofs.Lines.{first-place, malformed-means, large-means, falls-means}
-use Rattle.sheet.proofs.Valued.{worth-there, laid-shape, worths-laid, worth-read}
-use Rattle.sheet.proofs.Faults.{growing, all-yes}
+use Rattle.sheet.proofs.Valued.{worth-there, laid-shape, worths-laid, empty-worth, worth-read}
+use Rattle.sheet.proofs.Nowhere.{growing}
+use Rattle.sheet.proofs.Faults.{all-yes}
 
 module _ (P : Fault → Type 0) where
   ask-cases : (k : ℕ) (x : Bool) (rest : Unit {0} → Fault) → P (fault k 0) → (x ≡ true → P (rest tt)) → P (ask k x rest)
@@ -117,7 +118,7 @@ module _ (b : List ℕ) where
         rw (← worth-there m n v ws laid (yes-to 3 .1) (yes-to 4 .1) i s h g) (yes-to 7 i s h g))
 
     pub accepted-grows : Grows w
-    accepted-grows = growing b (yes-to 8)
+    accepted-grows = growing b w (empty-worth (w .buyers) n b) (yes-to 8)
 
     -- rule 3.8, step by step: a bundle within another is worth at most as much
     pub accepted-monotone : (i s t : ℕ) → i < w .buyers → s < 2 ^ n → t < 2 ^ n → ((j : ℕ) → j < n → bit j s ≡ true → bit j t ≡ true) → worth w i s ≤ worth w i t

@@ -1,19 +1,28 @@
 -- Ninety-six worths that are laid out from a table, sixteen to a line: which are 0 (`worth-none`), which the table's
--- (`worth-there`), and the shape of a sheet that has them (`laid-shape`). The worths of any sheet are laid out from its
--- fields (`worths-laid`, `worth-read`). Assumes nothing.
+-- (`worth-there`), that they are `Bounded` as the table is (`laid-bounded`), and the shape of a sheet that has them
+-- (`laid-shape`). The worths of any sheet are laid out from its fields (`worths-laid`, `worth-read`). Assumes nothing.
 use mathlib.Core.Path.{_≡_, refl, sym, _∙_}
 use mathlib.Core.List.{List}
 use Prim.Native.Nat.{ℕ, suc, _+_, _*_, _/_, _%_, _^_, _≤_, _<_}
 use native.Mathlib.Omega.{arith}
 use native.Mathlib.Decide.{decLe}
-use lib.ListN.{getD, List·getD-eq-default}
+use lib.ListN.{length, getD, List·getD-eq-default}
 use Rattle.theory.specs.Markets.{Table}
 use Rattle.theory.proofs.Loops.{Filled, filled-tabulate}
 use Rattle.numbers.proofs.Numbers.{pow-small}
 use Rattle.fields.specs.Fields.{numberAt}
 use Rattle.sheet.specs.Sheets.{offset, Sheet, asSheet, worthIn, worthsIn, worth}
 use Rattle.sheet.specs.Claims.{Shape}
-use Rattle.sheet.proofs.Places.{cell, cellAt, cell-empty, cell-nobody, cell-nothing, cell-there, cell-small}
+use Rattle.sheet.specs.Tables.{cell, cellAt}
+use Rattle.sheet.proofs.Places.{cell-empty, cell-nobody, cell-nothing, cell-there, cell-small}
+
+-- ninety-six worths up to c; those of the empty bundle, absent buyers and absent bundles are 0
+pub record Bounded (w : Sheet) (c : ℕ) : Type 0 where
+  pub long : length (w .worths) ≡ 96
+  pub small : (k : ℕ) → getD (w .worths) k 0 ≤ c
+  pub empty : (i : ℕ) → worth w i 0 ≡ 0
+  pub nobody : (i s : ℕ) → s < 16 → w .buyers ≤ i → worth w i s ≡ 0
+  pub nothing : (i s : ℕ) → s < 16 → 2 ^ w .lots ≤ s → worth w i s ≡ 0
 
 module _ (m n : ℕ) (v : Table) (l : List ℕ) (laid : Filled (cellAt m n v) 96 96 l) where
   abbrev w : Sheet
@@ -37,22 +46,34 @@ module _ (m n : ℕ) (v : Table) (l : List ℕ) (laid : Filled (cellAt m n v) 96
   worth-there few short i s g h =
       worth-at i s (omega arith) (omega (arith, pow-small n short)) ∙ sym (cell-there m n v i s g h)
 
+  pub laid-bounded : (c : ℕ) → ((i : ℕ) → i < m → v i 0 ≡ 0) → ((i s : ℕ) → i < m → s < 2 ^ n → v i s ≤ c) →
+      Bounded w c
+  laid-bounded c free small =
+      record {
+        long = laid .long;
+        small = λ k. elim (decLe 96 k) [
+          | yes h ↦ omega (arith, past k h)
+          | no h ↦ rw (laid .done k (omega arith)) (cell-small m n v c small (k / 16) (k % 16))
+        ];
+        empty = λ i. worth-none i 0 (omega arith) (cell-empty m n v i 0 (free i) refl);
+        nobody = λ i s h g. worth-none i s h (cell-nobody m n v i s g);
+        nothing = λ i s h g. worth-none i s h (cell-nothing m n v i s g);
+      }
+
   pub laid-shape : (1 ≤ m) × (m ≤ 6) → (1 ≤ n) × (n ≤ 4) → ((i : ℕ) → i < m → v i 0 ≡ 0) →
       ((i s : ℕ) → i < m → s < 2 ^ n → v i s ≤ 9999) → Shape w
   laid-shape buyers lots free small =
+      let known = laid-bounded 9999 free small in
       record {
         some-buyers = buyers .0;
         few-buyers = buyers .1;
         some-lots = lots .0;
         few-lots = lots .1;
-        long = laid .long;
-        small = λ k. elim (decLe 96 k) [
-          | yes h ↦ omega (arith, past k h)
-          | no h ↦ rw (laid .done k (omega arith)) (cell-small m n v 9999 small (k / 16) (k % 16))
-        ];
-        empty = λ i. worth-none i 0 (omega arith) (cell-empty m n v i 0 (free i) refl);
-        nobody = λ i s h g. worth-none i s h (cell-nobody m n v i s g);
-        nothing = λ i s h g. worth-none i s h (cell-nothing m n v i s g);
+        long = known .long;
+        small = known .small;
+        empty = known .empty;
+        nobody = known .nobody;
+        nothing = known .nothing;
       }
 
 -- the worths that bytes have

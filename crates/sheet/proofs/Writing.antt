@@ -46,7 +46,7 @@ module _ (w : Sheet) where
   abbrev lines : List ℕ
   lines = linesOf (tabulate m 0 row)
 
-  row-long : (i : ℕ) → length (lineOf (row i)) ≡ lineLength n
+  pub row-long : (i : ℕ) → length (lineOf (row i)) ≡ lineLength n
   row-long i = line-length (row i) ∙ ap (λ k. 6 * k + 1) (tabulate-length size _ (worth w i))
 
   head-long : length head ≡ 13

@@ -8,7 +8,7 @@ use mathlib.Core.Logic.{_⊎_, inl, inr}
 use Prim.Native.Nat.{ℕ, zero, suc, _+_, _-_, _≤_, _<_}
 use native.Mathlib.Omega.{arith}
 use native.Mathlib.Decide.{decLe, ℕ-discrete}
-use lib.ListN.{length, getD, replicate}
+use lib.ListN.{length, take, getD, replicate}
 use Rattle.theory.specs.Sums.{sum, Among}
 use Rattle.theory.specs.Lists.{_∈_, most, sumOver, keep, first, Ordered, tabulate, upTo}
 use Rattle.theory.proofs.Sums.{sum-same, sum-shift}
@@ -135,11 +135,16 @@ pub tabulate-same : {A : Type 0} (k s : ℕ) (f g : ℕ → A) → ((j : ℕ) �
 tabulate-same zero s f g h = refl
 tabulate-same (suc k) s f g h = rw (h s (omega arith), tabulate-same k (suc s) f g (λ j r. h j (omega arith)))
 
--- the last value apart, and a range that begins one later
+-- the last value apart, the first ones, and a range that begins one later
 pub tabulate-last : {A : Type 0} (k s : ℕ) (f : ℕ → A) → tabulate (suc k) s f ≡ tabulate k s f ++ (f (s + k) ∷ [])
 tabulate-last zero s f = ap (λ i. f i ∷ []) (omega arith)
 tabulate-last (suc k) s f =
     ap (λ l. f s ∷ l) (tabulate-last k (suc s) f ∙ ap (λ i. tabulate k (suc s) f ++ (f i ∷ [])) (omega arith))
+
+pub tabulate-take : {A : Type 0} (j k s : ℕ) (f : ℕ → A) → j ≤ k → take j (tabulate k s f) ≡ tabulate j s f
+tabulate-take zero k s f h = refl
+tabulate-take (suc j) zero s f h = absurd (omega arith)
+tabulate-take (suc j) (suc k) s f h = ap (λ l. f s ∷ l) (tabulate-take j k (suc s) f (omega arith))
 
 pub tabulate-shift : {A : Type 0} (k s : ℕ) (f : ℕ → A) → tabulate k (suc s) f ≡ tabulate k s (λ i. f (suc i))
 tabulate-shift zero s f = refl

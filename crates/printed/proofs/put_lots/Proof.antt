@@ -1,15 +1,15 @@
 -- `printed::put_lots` meets its contract. The invariant: the lines of the first j lots are printed.
-use mathlib.Core.List.{List, [], _∷_}
+use mathlib.Core.List.{[], _∷_}
 use mathlib.Core.Path.{_≡_, refl, ap, _∙_}
-use Prim.Native.Nat.{ℕ, _+_, _-_, _≤_}
+use Prim.Native.Nat.{_+_, _-_, _≤_}
 use native.Mathlib.Omega.{arith}
 use lib.ListN.{length, length-take, length-drop}
 use Rattle.theory.specs.Lists.{tabulate, over}
-use Rattle.fields.specs.Fields.{lineOf, linesOf}
+use Rattle.fields.specs.Fields.{linesOf}
 use Rattle.fields.proofs.Lines.{line-length}
 use Rattle.printing.proofs.Lines.{lines-long, lines-more}
 use Rattle.printed.specs.Printed.{lotLine}
-use Rattle.printed.proofs.Fours.{four-small}
+use Rattle.printing.proofs.Fours.{two-small}
 use Rattle.printed.proofs.put_lots.Statement.{statement}
 use Rattle.printed.proofs.put_lots.Tie as tie
 
@@ -19,13 +19,12 @@ Inv-loop out₀ lots owners j₀ out j = (j ≤ lots) × (out ≡ over (linesOf 
 abbrev μ-loop : tie.MeasureT-loop
 μ-loop out₀ lots owners j₀ out j = lots - j
 
-wide : (owners : List ℕ) (j : ℕ) → length (lineOf (lotLine owners j)) ≡ 13
-wide owners j = line-length (lotLine owners j)
-
 long : (a : tie.At-loop Inv-loop μ-loop) → length (a .loop .out) ≡ length (a .before .before .args .out .now)
 long a =
     let s = a .before .before in
-    lines-long (lotLine (s .args .t2)) 13 (wide (s .args .t2)) (s .args .out .now) (a .loop .j) (a .loop .out) (a .loop .inv .1) (omega (arith, s .pre .1, a .loop .inv .0))
+    let f = lotLine (s .args .t2) in
+    lines-long f 13 (λ j. line-length (f j)) (s .args .out .now) (a .loop .j) (a .loop .out) (a .loop .inv .1)
+    (omega (arith, s .pre .1, a .loop .inv .0))
 
 loop-holds : tie.Need-loop-holds Inv-loop μ-loop
 loop-holds c = (omega arith, refl)
@@ -46,23 +45,24 @@ number-requires : tie.Need-number-requires Inv-loop μ-loop
 number-requires c κs = tt
 
 sub-put-line : tie.Need-sub-put-line Inv-loop μ-loop
-sub-put-line c = let a = c .before .before in omega (arith, long a, a .before .before .pre .1, c .before .loop-test .taken)
+sub-put-line c = let a = c .before .before in omega (arith, long a, a .before .before .pre .1)
 
 part-put-line-start : tie.Need-part-put-line-start Inv-loop μ-loop
-part-put-line-start c = let a = c .before .before in omega (arith, long a, a .before .before .pre .1, c .before .loop-test .taken)
+part-put-line-start c = let a = c .before .before in omega (arith, long a, a .before .before .pre .1)
 
 part-put-line-end : tie.Need-part-put-line-end Inv-loop μ-loop
 part-put-line-end c = omega arith
 
+slice-aggregate-put-line : tie.Need-slice-aggregate-put-line Inv-loop μ-loop
+slice-aggregate-put-line c = refl
+
 put-line-requires : tie.Need-put-line-requires Inv-loop μ-loop
 put-line-requires c κs =
-    let o = c .before .number in
-    let a = c .before .before .before in
-    let s = a .before .before in
-    let more = c .before .before .loop-test .taken in (
-      omega arith,
+    let o = c .before .before in
+    let a = o .before .before in
+    let s = a .before .before in (
       simp (length-take, length-drop) (omega (arith, long a, s .pre .1)),
-      four-small 1000000 _ _ 0 0 (omega (arith, s .pre .0)) (omega (arith, o .ensures .most)) (omega arith) (omega arith),
+      two-small 1000000 _ _ (omega (arith, s .pre .0)) (omega (arith, o .number .ensures .most)),
     )
 
 add-j : tie.Need-add-j Inv-loop μ-loop
@@ -74,13 +74,14 @@ loop-less c = omega arith
 loop-again : tie.Need-loop-again Inv-loop μ-loop
 loop-again c =
     let put = c .before .before in
-    let o = put .before .before in
+    let o = put .before .before .before in
     let a = o .before .before in
     let s = a .before .before in
-    let more = o .before .loop-test .taken in (
+    let f = lotLine (s .args .t2) in (
       omega arith,
-      lines-more (lotLine (s .args .t2)) 13 (wide (s .args .t2)) (s .args .out .now) (a .loop .j) (a .loop .out) (a .loop .inv .1) (omega (arith, s .pre .1))
-          _ refl _ _ (ap (λ x. (a .loop .j + 1) ∷ x ∷ []) (o .number .ensures .is)) (put .put-line .ensures),
+      lines-more f 13 (λ j. line-length (f j)) (s .args .out .now) (a .loop .j) (a .loop .out) (a .loop .inv .1)
+          (omega (arith, s .pre .1)) _ refl _ _ (ap (λ x. (a .loop .j + 1) ∷ x ∷ []) (o .number .ensures .is))
+          (put .put-line .ensures),
     )
 
 same-length : tie.Need-same-length Inv-loop μ-loop
@@ -108,6 +109,7 @@ put-lots-spec =
     sub-put-line
     part-put-line-start
     part-put-line-end
+    slice-aggregate-put-line
     put-line-requires
     add-j
     loop-less

@@ -1,39 +1,45 @@
 -- `printed::put_refusal` meets its contract.
 use mathlib.Core.List.{[], _∷_}
-use mathlib.Core.Path.{sym, ap, _∙_}
+use mathlib.Core.Path.{refl, sym}
 use native.Mathlib.Omega.{arith}
-use lib.ListN.{length}
-use Rattle.theory.proofs.Over.{over-long}
 use Rattle.fields.specs.Fields.{lineOf}
 use Rattle.fields.proofs.Lines.{line-length}
-use Rattle.printed.proofs.Fours.{four-small}
-use Rattle.printed.proofs.Parts.{puts-none, puts-whole}
+use Rattle.printing.proofs.Fours.{two-small}
+use Rattle.printed.proofs.Parts.{puts-none, puts-whole, line-long}
 use Rattle.printed.proofs.put_refusal.Statement.{statement}
 use Rattle.printed.proofs.put_refusal.Tie as tie
 
 returns : tie.Need-returns
 returns c =
     let z = c .before .before .args in
-    puts-none (lineOf (z .number ∷ z .place ∷ [])) (z .out .now) (omega (arith, line-length (z .number ∷ z .place ∷ []), c .if1 .taken))
+    let vs = z .number ∷ z .place ∷ [] in
+    puts-none (lineOf vs) (z .out .now) (omega (arith, line-length vs, c .if1 .taken))
+
+slice-aggregate-put-line : tie.Need-slice-aggregate-put-line
+slice-aggregate-put-line c = refl
 
 put-line-requires : tie.Need-put-line-requires
 put-line-requires c κs =
-    let s = c .before .before .before in
-    (omega arith, omega (arith, c .before .if1 .left), four-small 1000000 _ _ 0 0 (s .pre .0) (s .pre .1) (omega arith) (omega arith))
+    let e = c .before .before in
+    let s = e .before .before in
+    (omega (arith, e .if1 .left), two-small 1000000 _ _ (s .pre .0) (s .pre .1))
 
 same-length : tie.Need-same-length
 same-length c =
     let put = c .before .before in
-    let e = put .before .before in
+    let e = put .before .before .before in
     let z = e .before .before .args in
-    ap length (put .put-line .ensures) ∙ over-long (lineOf (z .number ∷ z .place ∷ [])) (z .out .now) (omega (arith, line-length (z .number ∷ z .place ∷ []), e .if1 .left))
+    line-long (z .number ∷ z .place ∷ []) (z .out .now) _ (omega (arith, e .if1 .left)) (put .put-line .ensures)
 
 returns-2 : tie.Need-returns-2
 returns-2 c =
     let put = c .before .before in
-    let e = put .before .before in
+    let e = put .before .before .before in
     let z = e .before .before .args in
-    puts-whole (lineOf (z .number ∷ z .place ∷ [])) (z .out .now) _ 13 (omega (arith, line-length (z .number ∷ z .place ∷ []), e .if1 .left)) (sym (line-length (z .number ∷ z .place ∷ []))) (put .put-line .ensures)
+    let vs = z .number ∷ z .place ∷ [] in
+    puts-whole (lineOf vs) (z .out .now) _ 13 (omega (arith, line-length vs, e .if1 .left)) (sym (line-length vs))
+    (put .put-line .ensures)
 
 pub put-refusal-spec : {M : Type 1} → statement M
-put-refusal-spec = tie.close (tie.spec returns put-line-requires same-length returns-2)
+put-refusal-spec =
+    tie.close (tie.spec returns slice-aggregate-put-line put-line-requires same-length returns-2)

@@ -1,0 +1,98 @@
+-- What `write_sheet` answers and leaves in the buffer: a refusal (`says-refused`), or a sheet that is written
+-- (`says-written`), in two parts (`parts-written`); and what an answer of either kind tells (`told-refused`,
+-- `told-written`). Assumes nothing.
+use mathlib.Core.Path.{_≡_, refl, sym, ap, _∙_}
+use mathlib.Core.Logic.{_≢_}
+use mathlib.Core.List.{List, [], _∷_}
+use Prim.Native.Nat.{ℕ, zero, suc, _+_, _-_, _*_, _≤_, _<_}
+use native.Mathlib.Nat.{mul-comm}
+use native.Mathlib.Omega.{arith}
+use lib.ListN.{length, take, drop, getD}
+use borrow.Author.Tests.{eq-eqb, ne-eqb}
+use borrow.Rule.Slice.PartMut.{putMid}
+use Rattle.theory.specs.Sums.{pick, when}
+use Rattle.theory.specs.Lists.{tabulate, over}
+use Rattle.theory.proofs.Over.{over-long, over-then}
+use Rattle.fields.specs.Fields.{lineOf, linesOf}
+use Rattle.fields.proofs.Lines.{line-length, lines-length}
+use Rattle.sheet.specs.declared.Fault.{Fault}
+use Rattle.sheet.specs.Sheets.{lineLength, lineWorths}
+use Rattle.sheet.proofs.Writing.{bytes-written, row-long}
+use Rattle.writing.specs.declared.Wrote.{Wrote}
+use Rattle.writing.specs.Lists.{listSheet, sheetBytes}
+use Rattle.writing.specs.Answers.{writeFault, writeAnswer, writtenOver, WriteSays}
+use Rattle.writing.proofs.Questions.{write-place}
+
+pub sheet-length : (m n : ℕ) (vs : List ℕ) → length (sheetBytes m n vs) ≡ 13 + m * lineLength n
+unfolding sheetBytes
+sheet-length m n vs = bytes-written (listSheet m n vs) .long
+
+-- the first line, then the lines of worths
+module _ (m n : ℕ) (vs o l last : List ℕ) (room : 13 + m * lineLength n ≤ length o)
+    (e : l ≡ over (lineOf (m ∷ n ∷ [])) o) where
+  pub first-long : length l ≡ length o
+  first-long = ap length e ∙ over-long (lineOf (m ∷ n ∷ [])) o (omega (arith, line-length (m ∷ n ∷ [])))
+
+  pub parts-written :
+      last ≡ over (linesOf (tabulate m 0 (lineWorths (listSheet m n vs)))) (take (length l - 13) (drop 13 l)) →
+      putMid 13 (length l - 13) l last ≡ over (sheetBytes m n vs) o
+  unfolding sheetBytes
+  parts-written g =
+      let rows = linesOf (tabulate m 0 (lineWorths (listSheet m n vs))) in
+      let long = lines-length (lineWorths (listSheet m n vs)) (lineLength n) (row-long (listSheet m n vs)) m 0 in
+      over-then (lineOf (m ∷ n ∷ [])) rows o l last 13 (line-length (m ∷ n ∷ []))
+      (omega (arith, long, mul-comm m (lineLength n))) e g
+
+abbrev wrote : ℕ → ℕ → ℕ → Wrote
+wrote number place long = record { number = number; place = place; length = long }
+
+module _ (m n : ℕ) (vs o : List ℕ) where
+  abbrev f : Fault
+  f = writeFault m n vs (length o)
+
+  abbrev b : List ℕ
+  b = sheetBytes m n vs
+
+  pub says-refused : (k : ℕ) → k ≡ f .number → k ≢ 0 → WriteSays m n vs o o (wrote k 0 0)
+  says-refused k e h =
+      let t = ne-eqb (f .number) 0 (λ z. h (e ∙ z)) in
+      record {
+        answer =
+            ap (λ x. wrote x 0 0) e ∙ ap (λ x. wrote (f .number) x 0) (sym (write-place m n vs (length o)))
+            ∙ ap (λ x. wrote (f .number) (f .place) (when x (length b))) (sym t);
+        bytes = ap (λ x. pick x (over b o) o) (sym t);
+      }
+
+  pub says-written : (k : ℕ) (o′ : List ℕ) → 0 ≡ f .number → k ≡ 13 + m * lineLength n → o′ ≡ over b o →
+      WriteSays m n vs o o′ (wrote 0 0 k)
+  says-written k o′ z ek eo =
+      let t = eq-eqb (f .number) 0 (sym z) in
+      record {
+        answer =
+            ap (λ x. wrote x 0 k) z ∙ ap (λ x. wrote (f .number) x k) (sym (write-place m n vs (length o)))
+            ∙ ap (wrote (f .number) (f .place)) (ek ∙ sym (sheet-length m n vs))
+            ∙ ap (λ x. wrote (f .number) (f .place) (when x (length b))) (sym t);
+        bytes = eo ∙ ap (λ x. pick x (over b o) o) (sym t);
+      }
+
+  -- the other way round
+  module _ (o′ : List ℕ) (r : Wrote) (says : WriteSays m n vs o o′ r) where
+    pub told-number : r .number ≡ f .number
+    told-number = ap (λ (x : Wrote). x .number) (says .answer)
+
+    pub told-place : r .place ≡ 0
+    told-place = ap (λ (x : Wrote). x .place) (says .answer) ∙ write-place m n vs (length o)
+
+    pub told-refused : r .number ≢ 0 → (r .length ≡ 0) × (o′ ≡ o)
+    told-refused h =
+        let t = ne-eqb (f .number) 0 (λ z. h (told-number ∙ z)) in (
+          ap (λ (x : Wrote). x .length) (says .answer) ∙ ap (λ x. when x (length b)) t,
+          says .bytes ∙ ap (λ x. pick x (over b o) o) t,
+        )
+
+    pub told-written : r .number ≡ 0 → (r .length ≡ length b) × (o′ ≡ over b o)
+    told-written z =
+        let t = eq-eqb (f .number) 0 (sym told-number ∙ z) in (
+          ap (λ (x : Wrote). x .length) (says .answer) ∙ ap (λ x. when x (length b)) t,
+          says .bytes ∙ ap (λ x. pick x (over b o) o) t,
+        )

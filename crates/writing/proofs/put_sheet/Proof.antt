@@ -1,0 +1,108 @@
+-- `writing::put_sheet` meets its contract.
+use mathlib.Core.List.{List, []}
+use mathlib.Core.Path.{_≡_, ap, _∙_}
+use Prim.Native.Nat.{ℕ, _-_}
+use native.Mathlib.Nat.{mul-comm}
+use native.Mathlib.Omega.{arith}
+use borrow.Author.Needs.{needs}
+use borrow.Rule.Slice.PartMut.{putMid}
+use lib.ListN.{length, length-take, length-drop}
+use Rattle.theory.specs.Lists.{over}
+use Rattle.theory.proofs.Over.{over-long}
+use Rattle.printing.proofs.Fours.{two-small}
+use Rattle.sheet.specs.Sheets.{lineLength}
+use Rattle.writing.specs.Lists.{sheetBytes}
+use Rattle.writing.proofs.Answers.{sheet-length, first-long, parts-written}
+use Rattle.writing.proofs.put_sheet.Statement.{statement}
+use Rattle.writing.proofs.put_sheet.Tie as tie
+
+-- once the first line is written
+module _ (p : tie.After-put-line) where
+  abbrev start : tie.Start
+  start = p .before .before .before .before .before
+
+  abbrev m : ℕ
+  m = start .args .m
+
+  abbrev n : ℕ
+  n = start .args .n
+
+  abbrev vs : List ℕ
+  vs = start .args .worths .now
+
+  abbrev o : List ℕ
+  o = start .args .out .now
+
+  long : length (p .put-line .last .0) ≡ length o
+  long = first-long m n vs o (p .put-line .last .0) [] (start .pre .3) (p .put-line .ensures)
+
+cast-t6 : tie.Need-cast-t6
+cast-t6 c = search needs
+
+cast-t7 : tie.Need-cast-t7
+cast-t7 c = search needs
+
+slice-aggregate-put-line : tie.Need-slice-aggregate-put-line
+slice-aggregate-put-line c = search needs
+
+put-line-requires : tie.Need-put-line-requires
+put-line-requires c κs =
+    let s = c .before .before .before .before in (
+      omega (arith, s .pre .3),
+      two-small 1000000 _ _ (omega (arith, s .pre .0)) (omega (arith, s .pre .1)),
+    )
+
+sub-put-rows : tie.Need-sub-put-rows
+sub-put-rows c = let p = c .before .before in omega (arith, long p, start p .pre .3)
+
+part-put-rows-start : tie.Need-part-put-rows-start
+part-put-rows-start c = let p = c .before .before in omega (arith, long p, start p .pre .3)
+
+part-put-rows-end : tie.Need-part-put-rows-end
+part-put-rows-end c = omega arith
+
+put-rows-requires : tie.Need-put-rows-requires
+put-rows-requires c κs =
+    let p = c .before .before .before in
+    let s = start p in (
+      s .pre .0,
+      s .pre .1,
+      s .pre .2,
+      simp (length-take, length-drop) (omega (arith, long p, s .pre .3, mul-comm (m p) (lineLength (n p)))),
+      s .pre .4,
+    )
+
+-- once the lines of worths are written
+whole : (q : tie.After-put-rows) → let p = q .before .before .before .before in
+    putMid 13 (length (p .put-line .last .0) - 13) (p .put-line .last .0) (q .put-rows .last .0)
+    ≡ over (sheetBytes (m p) (n p) (vs p)) (o p)
+whole q =
+    let p = q .before .before .before .before in
+    parts-written (m p) (n p) (vs p) (o p) (p .put-line .last .0) (q .put-rows .last .0) (start p .pre .3)
+    (p .put-line .ensures) (q .put-rows .ensures)
+
+same-length : tie.Need-same-length
+same-length c =
+    let q = c .before .before in
+    let p = q .before .before .before .before in
+    ap length (whole q)
+    ∙ over-long (sheetBytes (m p) (n p) (vs p)) (o p)
+    (omega (arith, sheet-length (m p) (n p) (vs p), start p .pre .3))
+
+returns : tie.Need-returns
+returns c = whole (c .before .before)
+
+pub put-sheet-spec : {M : Type 1} → statement M
+put-sheet-spec =
+    tie.close
+    (tie.spec
+    cast-t6
+    cast-t7
+    slice-aggregate-put-line
+    put-line-requires
+    sub-put-rows
+    part-put-rows-start
+    part-put-rows-end
+    put-rows-requires
+    same-length
+    returns)

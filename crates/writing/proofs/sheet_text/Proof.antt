@@ -1,0 +1,126 @@
+-- `writing::sheet_text` meets its contract.
+use mathlib.Core.List.{List}
+use mathlib.Core.Path.{_≡_, sym, ap, _∙_}
+use Prim.Native.Nat.{ℕ}
+use native.Mathlib.Omega.{arith}
+use borrow.Author.Needs.{needs}
+use lib.ListN.{length, take}
+use lib.Seq.{length-take-le}
+use Rattle.printing.proofs.Fours.{two-small}
+use Rattle.writing.specs.Answers.{typedList}
+use Rattle.writing.proofs.Texts.{first-length, first-list, refused-long, place-none, text-written, text-refused}
+use Rattle.writing.proofs.sheet_text.Statement.{statement}
+use Rattle.writing.proofs.sheet_text.Tie as tie
+
+-- once the sheet is written, or refused
+module _ (p : tie.After-write-sheet) where
+  abbrev start : tie.Start
+  start = p .before .before .before .before .before .before .before .before
+
+  abbrev b : List ℕ
+  b = start .args .numbers .now
+
+  abbrev count : tie.After-typed-count
+  count = p .before .before .before
+
+  abbrev read : tie.After-typed-worths
+  read = count .before
+
+  abbrev second : tie.After-typed-at2
+  second = read .before
+
+  list-is : take (count .typed-count .result) (read .typed-worths .result) ≡ take 91 (typedList b)
+  list-is =
+      ap (take (count .typed-count .result)) (read .typed-worths .ensures)
+      ∙ first-list b (count .typed-count .result) (count .typed-count .ensures .is)
+
+typed-at-requires : tie.Need-typed-at-requires
+typed-at-requires c κs = search needs
+
+typed-at-requires-2 : tie.Need-typed-at-requires-2
+typed-at-requires-2 c κs = search needs
+
+typed-worths-requires : tie.Need-typed-worths-requires
+typed-worths-requires c κs = search needs
+
+typed-count-requires : tie.Need-typed-count-requires
+typed-count-requires c κs = search needs
+
+array-share-prefix-worths : tie.Need-array-share-prefix-worths
+array-share-prefix-worths c = search needs
+
+slice-aggregate-write-sheet : tie.Need-slice-aggregate-write-sheet
+slice-aggregate-write-sheet c =
+    let count = c .before in
+    let read = count .before in
+    let long = ap length (read .typed-worths .ensures) ∙ first-length (read .before .before .before .before .args .numbers .now) in
+    sym (length-take-le (count .typed-count .result) (read .typed-worths .result) (omega (arith, long, count .typed-count .ensures .most)))
+
+slice-aggregate-write-sheet-2 : tie.Need-slice-aggregate-write-sheet-2
+slice-aggregate-write-sheet-2 c = search needs
+
+write-sheet-requires : tie.Need-write-sheet-requires
+write-sheet-requires c κs = search needs
+
+cast-length : tie.Need-cast-length
+cast-length c = search needs
+
+returns : tie.Need-returns
+returns c =
+    let p = c .before .before .before .before in
+    text-written (b p) _ _ _ _ (p .write-sheet .result) (second p .before .typed-at .ensures) (second p .typed-at2 .ensures)
+    (list-is p) (p .write-sheet .ensures) (c .before .if1 .taken)
+
+cast-t18 : tie.Need-cast-t18
+cast-t18 c = search needs
+
+slice-aggregate-put-line : tie.Need-slice-aggregate-put-line
+slice-aggregate-put-line c = search needs
+
+slice-aggregate-put-line-2 : tie.Need-slice-aggregate-put-line-2
+slice-aggregate-put-line-2 c = search needs
+
+put-line-requires : tie.Need-put-line-requires
+put-line-requires c κs =
+    let p = c .before .before .before .before .before .before in
+    let e = c .before .before .before in
+    let w = p .write-sheet .result in (
+      omega (
+        arith,
+        refused-long (b p) _ _ _ _ w (second p .before .typed-at .ensures) (second p .typed-at2 .ensures)
+            (list-is p) (p .write-sheet .ensures) (e .if1 .left),
+      ),
+      two-small 1000000 (w .number) (w .place) (omega (arith, c .before .before .struct-known3 .given))
+          (omega (
+            arith,
+            place-none (b p) _ _ _ _ w (second p .before .typed-at .ensures) (second p .typed-at2 .ensures)
+                (list-is p) (p .write-sheet .ensures),
+          )),
+    )
+
+returns-2 : tie.Need-returns-2
+returns-2 c =
+    let put = c .before in
+    let p = put .before .before .before .before .before .before .before in
+    text-refused (b p) _ _ _ _ (p .write-sheet .result) (second p .before .typed-at .ensures) (second p .typed-at2 .ensures)
+    (list-is p) (p .write-sheet .ensures) (put .before .before .before .before .if1 .left) _ (put .put-line .ensures)
+
+pub sheet-text-spec : {M : Type 1} → statement M
+sheet-text-spec =
+    tie.close
+    (tie.spec
+    typed-at-requires
+    typed-at-requires-2
+    typed-worths-requires
+    typed-count-requires
+    array-share-prefix-worths
+    slice-aggregate-write-sheet
+    slice-aggregate-write-sheet-2
+    write-sheet-requires
+    cast-length
+    returns
+    cast-t18
+    slice-aggregate-put-line
+    slice-aggregate-put-line-2
+    put-line-requires
+    returns-2)

@@ -1,0 +1,55 @@
+-- `writing::table_of` meets its contract. The invariant: the first k places are filled.
+use mathlib.Core.Path.{refl}
+use Prim.Native.Nat.{_-_, _≤_}
+use native.Mathlib.Omega.{arith}
+use Rattle.sheet.specs.Tables.{cellAt, cells}
+use Rattle.writing.specs.Lists.{listed}
+use Rattle.theory.proofs.Loops.{Filled, filled-none, filled-more, filled-all}
+use Rattle.writing.proofs.table_of.Statement.{statement}
+use Rattle.writing.proofs.table_of.Tie as tie
+
+abbrev Inv-loop : tie.InvT-loop
+Inv-loop worths m n t₀ k₀ t k = (k ≤ 96) × Filled (cellAt m n (listed n worths)) 96 k t
+
+abbrev μ-loop : tie.MeasureT-loop
+μ-loop worths m n t₀ k₀ t k = 96 - k
+
+loop-holds : tie.Need-loop-holds Inv-loop μ-loop
+loop-holds c = (omega arith, filled-none _ 96 _ refl)
+
+listed-place-requires : tie.Need-listed-place-requires Inv-loop μ-loop
+listed-place-requires c κs = omega arith
+
+mul-t : tie.Need-mul-t Inv-loop μ-loop
+mul-t c = omega arith
+
+array-write-t : tie.Need-array-write-t Inv-loop μ-loop
+array-write-t c = omega (arith, c .before .before .loop .inv .1 .long)
+
+add-k : tie.Need-add-k Inv-loop μ-loop
+add-k c = omega arith
+
+loop-less : tie.Need-loop-less Inv-loop μ-loop
+loop-less c = omega arith
+
+loop-again : tie.Need-loop-again Inv-loop μ-loop
+loop-again c = (omega arith, filled-more _ 96 _ _ _ (omega arith) (c .listed-place .ensures) (c .before .before .loop .inv .1))
+
+returns : tie.Need-returns Inv-loop μ-loop
+unfolding cells
+returns c = filled-all _ 96 _ _ (omega arith) (c .before .loop .inv .1)
+
+pub table-of-spec : {M : Type 1} → statement M
+table-of-spec =
+    tie.close
+    (tie.spec
+    Inv-loop
+    μ-loop
+    loop-holds
+    listed-place-requires
+    mul-t
+    array-write-t
+    add-k
+    loop-less
+    loop-again
+    returns)

@@ -1,0 +1,64 @@
+-- `writing::typed_worths` meets its contract. The invariant: the first k places are filled.
+use mathlib.Core.Path.{_≡_, refl, sym, ap, _∙_}
+use Prim.Native.Nat.{suc, _+_, _-_, _≤_}
+use native.Mathlib.Omega.{arith}
+use Rattle.theory.proofs.Lists.{tabulate-same, tabulate-shift}
+use Rattle.theory.proofs.Loops.{Filled, filled-none, filled-more, filled-all}
+use Rattle.writing.specs.Answers.{typed, firstTyped}
+use Rattle.writing.proofs.typed_worths.Statement.{statement}
+use Rattle.writing.proofs.typed_worths.Tie as tie
+
+abbrev Inv-loop : tie.InvT-loop
+Inv-loop numbers t₀ k₀ t k = (k ≤ 91) × Filled (λ j. typed numbers (j + 2)) 91 k t
+
+abbrev μ-loop : tie.MeasureT-loop
+μ-loop numbers t₀ k₀ t k = 91 - k
+
+loop-holds : tie.Need-loop-holds Inv-loop μ-loop
+loop-holds c = (omega arith, filled-none _ 91 _ refl)
+
+add-typed-at : tie.Need-add-typed-at Inv-loop μ-loop
+add-typed-at c = omega arith
+
+typed-at-requires : tie.Need-typed-at-requires Inv-loop μ-loop
+typed-at-requires c κs = omega arith
+
+mul-t : tie.Need-mul-t Inv-loop μ-loop
+mul-t c = omega arith
+
+array-write-t : tie.Need-array-write-t Inv-loop μ-loop
+array-write-t c = omega (arith, c .before .before .loop .inv .1 .long)
+
+add-k : tie.Need-add-k Inv-loop μ-loop
+add-k c = omega arith
+
+loop-less : tie.Need-loop-less Inv-loop μ-loop
+loop-less c = omega arith
+
+loop-again : tie.Need-loop-again Inv-loop μ-loop
+loop-again c = (omega arith, filled-more _ 91 _ _ _ (omega arith) (c .typed-at .ensures) (c .before .before .loop .inv .1))
+
+returns : tie.Need-returns Inv-loop μ-loop
+unfolding firstTyped
+returns c =
+    let b = c .before .before .before .args .numbers .now in
+    filled-all (λ j. typed b (j + 2)) 91 _ _ (omega arith) (c .before .loop .inv .1)
+    ∙ tabulate-same 91 0 (λ j. typed b (j + 2)) (λ j. typed b (suc (suc j))) (λ j _.
+    let e : j + 2 ≡ suc (suc j) = omega arith in ap (typed b) e)
+    ∙ sym (tabulate-shift 91 1 (typed b) ∙ tabulate-shift 91 0 (λ j. typed b (suc j)))
+
+pub typed-worths-spec : {M : Type 1} → statement M
+typed-worths-spec =
+    tie.close
+    (tie.spec
+    Inv-loop
+    μ-loop
+    loop-holds
+    add-typed-at
+    typed-at-requires
+    mul-t
+    array-write-t
+    add-k
+    loop-less
+    loop-again
+    returns)
