@@ -1,6 +1,6 @@
 /* Runs the sale of a lot sheet and prints its rounds, owners and payments, what the direct way says
- * of them, a demand answer, and last the printed sale. The sheet is the file named, or standard
- * input if none is:
+ * of them, a demand answer, whether the sheet is the same if it is written from its worths, and
+ * last the printed sale. The sheet is the file named, or standard input if none is:
  *
  *     cc -std=c11 -Iinclude examples/office.c target/staticlib/libhokewhuni.a -o office
  *     ./office examples/example.sheet
@@ -55,6 +55,24 @@ static void print_demand(const hokewhuni_demand *demand, unsigned buyer)
     printf(" and is %s\n", demand->keen ? "keen" : "not keen");
 }
 
+/* Writes a sheet from the worths that it is read as, and prints whether its bytes are the same. */
+static void print_written(const uint8_t *sheet, size_t length)
+{
+    hokewhuni_worths read = hokewhuni_read_worths(sheet, length);
+    uint32_t list[6 * 15]; /* 15 bundles for each of 6 buyers are the most */
+    size_t count = 0;
+    for (unsigned buyer = 1; buyer <= read.buyers; buyer++) {
+        for (unsigned bundle = 1; bundle < 1u << read.lots; bundle++) {
+            list[count++] = read.worths[16 * (buyer - 1) + bundle];
+        }
+    }
+    uint8_t out[HOKEWHUNI_SHEET_BYTES];
+    hokewhuni_wrote wrote =
+        hokewhuni_write_sheet(read.buyers, read.lots, list, count, out, sizeof out);
+    bool same = wrote.length == length && memcmp(out, sheet, length) == 0;
+    printf("written: %u bytes, %s\n", (unsigned)wrote.length, same ? "the same" : "others");
+}
+
 /* Runs the sale and prints what comes of it. */
 static void sell(const uint8_t *sheet, size_t length)
 {
@@ -68,6 +86,7 @@ static void sell(const uint8_t *sheet, size_t length)
         print_settled(&sale);
         print_direct(&direct, &sale);
         print_demand(&demand, 1);
+        print_written(sheet, length);
     }
     size_t printed =
         hokewhuni_print_sale(sheet, length, record, sizeof record, out, sizeof out);

@@ -24,14 +24,21 @@
  *      9  only of a sale: the record has fewer bytes than the sum, over buyers, of the worth of all
  *         lots together
  *     10  only of a demand answer: the buyer asked about is not 1 to m
+ *     11  only of writing: `out` has fewer than 13 + m * (6 * (2^n - 1) + 1) bytes
+ *
+ * Writing puts questions 3, 4, 5, 7, 8 and 11, in this order, to the numbers of buyers and lots and
+ * the list of worths that it is given. `place` is always 0 then, and question 5 is another:
+ *
+ *      5  the list has not m * (2^n - 1) numbers
  *
  * What a caller has to keep to:
  *
- * - Every pointer is valid for its length: `sheet` for reading, `record` and `out` for reading and
- *   writing, `prices` for 96 numbers.
+ * - Every pointer is valid for its length: `sheet` and `worths` for reading, `record` and `out` for
+ *   reading and writing, `prices` for 96 numbers. The length of `worths` counts numbers, all others
+ *   count bytes.
  * - No pointer is null, not even with length 0; it need not point to anything then.
- * - While a call runs, `record` and `out` overlap neither each other nor the sheet, and nothing
- *   else writes to what is lent, or reads `record` or `out`.
+ * - While a call runs, `record` and `out` overlap neither each other nor anything else that is
+ *   lent, and nothing else writes to what is lent, or reads `record` or `out`.
  *
  * Nothing else is asked of the caller. A call writes to `record` and `out` alone and keeps nothing,
  * so that calls may run at once on several threads.
@@ -44,7 +51,8 @@
 #include <stdint.h>
 
 /* No sheet of this many bytes or more is accepted: a longer file may be cut here, and gets the same
- * refusal. */
+ * refusal. So this many bytes have room for every sheet that is written, of which the longest has
+ * 559: 11 is not answered then. */
 #define HOKEWHUNI_SHEET_BYTES 560
 
 /* A record of this many bytes is long enough for every sheet: 9 is not answered then. */
@@ -111,6 +119,13 @@ typedef struct {
     uint32_t payments[6];
 } hokewhuni_direct;
 
+/* A written sheet. */
+typedef struct {
+    uint8_t number;
+    uint32_t place;  /* always 0 */
+    uint32_t length; /* of the sheet, in bytes */
+} hokewhuni_wrote;
+
 /* Reads the six columns of a sheet from offset `at`, any offset: a number right-justified after
  * blanks. The next column is at + 6, also after a fault. With fewer than six bytes left the field
  * is a fault, and the next column is sheet_length. No question is asked. */
@@ -146,6 +161,14 @@ hokewhuni_direct hokewhuni_direct_way(const uint8_t *sheet, size_t sheet_length)
  * discount, payment. Of a refusal: one line of number and place, 13 bytes. */
 size_t hokewhuni_print_sale(const uint8_t *sheet, size_t sheet_length, uint8_t *record,
                             size_t record_length, uint8_t *out, size_t out_length);
+
+/* Asks questions 3, 4, 5, 7, 8 and 11, writes a sheet to the front of `out`, and answers its
+ * length. Bytes of `out` after it keep their values; with a refusal all bytes do. `worths` is one
+ * list in the sheet's order: what bundles 1 to 2^n - 1 are worth to buyer 1, then to buyer 2, and
+ * so on. hokewhuni_read_worths answers the same worths of what is written; and an accepted sheet,
+ * read by it and written from its worths in this order, has the same bytes again. */
+hokewhuni_wrote hokewhuni_write_sheet(uint32_t buyers, uint32_t lots, const uint32_t *worths,
+                                      size_t worths_length, uint8_t *out, size_t out_length);
 
 #ifdef __cplusplus
 }

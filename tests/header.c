@@ -1,5 +1,6 @@
 /* Prints the header's constants, and every number of each call's answer to the sheet on standard
- * input; then the recorded sets and the printed sale. */
+ * input, which is written from its worths too; then the recorded sets, the printed sale and the
+ * written sheet. */
 #include <stdio.h>
 
 #include "hokewhuni.h"
@@ -9,6 +10,9 @@
     for (size_t at = 0; at < sizeof(array) / sizeof(array)[0]; at++) { \
         printf(" %u", (unsigned)(array)[at]); \
     }
+
+/* One byte less than the shortest sheet has. */
+#define TOO_SHORT 19
 
 static uint8_t record[HOKEWHUNI_RECORD_BYTES];
 
@@ -62,6 +66,31 @@ static void print_record(const uint8_t *sheet, size_t length, uint32_t rounds)
     fwrite(out, 1, printed, stdout);
 }
 
+static size_t print_wrote(hokewhuni_wrote wrote)
+{
+    printf(" %u %u %u\n", wrote.number, wrote.place, wrote.length);
+    return wrote.length;
+}
+
+/* Writes the sheet's worths, which are none if it is refused, into a buffer that is too short and
+ * into one that is not. */
+static void print_written(const uint8_t *sheet, size_t length)
+{
+    hokewhuni_worths read = hokewhuni_read_worths(sheet, length);
+    uint8_t out[HOKEWHUNI_SHEET_BYTES];
+    uint32_t list[90];
+    size_t count = 0;
+    for (unsigned buyer = 0; buyer < read.buyers; buyer++) {
+        for (unsigned bundle = 1; bundle < 1u << read.lots; bundle++) {
+            list[count++] = read.worths[16 * buyer + bundle];
+        }
+    }
+    print_wrote(hokewhuni_write_sheet(read.buyers, read.lots, list, count, out, TOO_SHORT));
+    size_t written = print_wrote(
+        hokewhuni_write_sheet(read.buyers, read.lots, list, count, out, sizeof out));
+    fwrite(out, 1, written, stdout);
+}
+
 int main(void)
 {
     static const uint16_t zeros[96];
@@ -75,5 +104,6 @@ int main(void)
     print_demand(sheet, length, sale.prices);
     print_direct(sheet, length);
     print_record(sheet, length, sale.rounds);
+    print_written(sheet, length);
     return fclose(stdout);
 }

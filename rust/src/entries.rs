@@ -2,7 +2,7 @@
 
 use crate::answers::{flat, Demand, Direct, Field, Sale, Size, Table, Worths};
 use crate::raw;
-use crate::refusal::Refusal;
+use crate::refusal::{Refusal, WriteRefusal};
 
 /// Reads the six columns of a sheet from offset `at`, any offset: a number right-justified after
 /// blanks. The next column is `at + 6`, also after a fault. With fewer than six bytes left the
@@ -52,4 +52,28 @@ pub fn direct_way(sheet: &[u8]) -> Result<Direct, Refusal> {
 pub fn print_sale(sheet: &[u8], record: &mut [u8], out: &mut [u8]) -> Option<usize> {
     let length = raw::print_sale(sheet, record, out);
     (length > 0).then_some(length)
+}
+
+/// Asks questions 3, 4, 5, 7, 8 and 11, writes a sheet to the front of `out`, and answers its
+/// length. Bytes of `out` after it keep their values; with a refusal all bytes do. The worths are
+/// one list in the sheet's order: what bundles 1 to 2^n − 1 are worth to buyer 1, then to buyer 2,
+/// and so on, with n lots. [`read_worths`] answers the same worths of what is written; and an
+/// accepted sheet, read by it and written from its worths in this order, has the same bytes again.
+///
+/// ```
+/// let mut out = [b'.'; 30];
+/// assert_eq!(hokewhuni::write_sheet(2, 1, &[5, 3], &mut out), Ok(27));
+/// assert_eq!(&out, b"     2     1\n     5\n     3\n...");
+/// ```
+pub fn write_sheet(
+    buyers: usize,
+    lots: usize,
+    worths: &[u32],
+    out: &mut [u8],
+) -> Result<usize, WriteRefusal> {
+    // No number that is too great for the library is one of buyers or lots.
+    let [buyers, lots] = [buyers, lots].map(|count| u32::try_from(count).unwrap_or(u32::MAX));
+    let wrote = raw::write_sheet(buyers, lots, worths, out);
+    WriteRefusal::check(wrote.number)?;
+    Ok(wrote.length as usize)
 }

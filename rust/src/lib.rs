@@ -27,6 +27,21 @@
 //! assert_eq!(refusal.to_string(), "a worth is above 9,999, at offset 13");
 //! ```
 //!
+//! A sheet can be written from a list of worths, which is refused by the questions that a sheet of
+//! them would be refused by:
+//!
+//! ```
+//! use hokewhuni::WriteRefusal;
+//!
+//! let sheet = hokewhuni::written_sheet(2, 2, &[2, 0, 2, 0, 1, 3])?;
+//! assert_eq!(sheet, b"     2     2\n     2     0     2\n     0     1     3\n");
+//!
+//! let refusal = hokewhuni::written_sheet(1, 1, &[10_000]).unwrap_err();
+//! assert_eq!(refusal, WriteRefusal::WorthTooHigh);
+//! assert_eq!(refusal.to_string(), "a worth is above 9,999");
+//! # Ok::<(), WriteRefusal>(())
+//! ```
+//!
 //! No function keeps anything, so that calls may run at once on several threads.
 //!
 //! The library is for x86-64 Linux. The build takes it from the folder that `HOKEWHUNI_LIB` names,
@@ -45,9 +60,10 @@ mod refusal;
 pub use answers::{Demand, Direct, Field, Sale, Size, Table, Worths};
 pub use entries::{
     buyer_demand, direct_way, print_sale, read_field, read_sheet, read_worths, run_sale,
+    write_sheet,
 };
 pub use raw::{PRINT_BYTES, RECORD_BYTES, SHEET_BYTES};
-pub use refusal::Refusal;
+pub use refusal::{Refusal, WriteRefusal};
 
 /// Runs the sale as [`run_sale`] does, with a record that is long enough for every sheet, and
 /// answers the bytes recorded too, one for each round.
@@ -75,4 +91,12 @@ pub fn printed_sale(sheet: &[u8]) -> Vec<u8> {
     let length = print_sale(sheet, &mut vec![0; RECORD_BYTES], &mut out);
     out.truncate(length.expect("there is room for every printed sale"));
     out
+}
+
+/// The sheet that [`write_sheet`] writes. It is never refused for want of room.
+pub fn written_sheet(buyers: usize, lots: usize, worths: &[u32]) -> Result<Vec<u8>, WriteRefusal> {
+    let mut out = vec![0; SHEET_BYTES];
+    let length = write_sheet(buyers, lots, worths, &mut out)?;
+    out.truncate(length);
+    Ok(out)
 }

@@ -2,10 +2,12 @@
 //! functions over slices. The crate's own functions answer the same in Rust's way.
 //!
 //! `number` and `place` of an answer are those of a refusal, and every other number is 0 then;
-//! they are 0 if the sheet is not refused. [`crate::Refusal`] says what the numbers mean.
+//! they are 0 if nothing is refused. [`crate::Refusal`] says what the numbers mean, of writing
+//! [`crate::WriteRefusal`].
 
 /// No sheet of this many bytes or more is accepted: a longer file may be cut here, and gets the
-/// same refusal.
+/// same refusal. So this many bytes have room for every sheet that is written, of which the longest
+/// has 559: 11 is not answered then.
 pub const SHEET_BYTES: usize = 560;
 
 /// A record of this many bytes is long enough for every sheet: 9 is not answered then.
@@ -111,6 +113,18 @@ pub struct Direct {
     pub payments: [u32; 6],
 }
 
+/// `hokewhuni_wrote`: a written sheet.
+#[repr(C)]
+#[derive(Clone, Debug, PartialEq, Eq)]
+pub struct Wrote {
+    /// A refusal's number, or 0.
+    pub number: u8,
+    /// Always 0.
+    pub place: u32,
+    /// The length of the sheet, in bytes.
+    pub length: u32,
+}
+
 // The header's declarations. Each function asks the same of its caller, and nothing else: that a
 // pointer is valid for its length and not null, and that what it may write to overlaps nothing and
 // is used by nobody else while it runs. So it is with a slice's pointer and length, and with what is
@@ -140,6 +154,14 @@ unsafe extern "C" {
         out: *mut u8,
         out_length: usize,
     ) -> usize;
+    fn hokewhuni_write_sheet(
+        buyers: u32,
+        lots: u32,
+        worths: *const u32,
+        worths_length: usize,
+        out: *mut u8,
+        out_length: usize,
+    ) -> Wrote;
 }
 
 /// As [`crate::read_field`].
@@ -193,4 +215,11 @@ pub fn print_sale(sheet: &[u8], record: &mut [u8], out: &mut [u8]) -> usize {
             out.len(),
         )
     }
+}
+
+/// As [`crate::write_sheet`].
+pub fn write_sheet(buyers: u32, lots: u32, worths: &[u32], out: &mut [u8]) -> Wrote {
+    let (to, length) = (out.as_mut_ptr(), out.len());
+    // SAFETY: the pointers are the slices', each with its length, and `out` is lent by `&mut`.
+    unsafe { hokewhuni_write_sheet(buyers, lots, worths.as_ptr(), worths.len(), to, length) }
 }

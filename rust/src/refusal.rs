@@ -119,3 +119,72 @@ impl Display for Refusal {
 }
 
 impl Error for Refusal {}
+
+/// Why a sheet is not written: the first question that gets a no. The questions are asked in this
+/// order; m and n are the numbers of buyers and lots. A list has no offsets, so there is no place.
+#[derive(Clone, Copy, Debug, PartialEq, Eq, Hash)]
+#[non_exhaustive]
+pub enum WriteRefusal {
+    /// 3: the number of buyers is not 1 to 6.
+    BuyerCount,
+    /// 4: the number of lots is not 1 to 4.
+    LotCount,
+    /// 5: the list has not m × (2^n − 1) numbers.
+    WrongLength,
+    /// 7: a worth is above 9,999.
+    WorthTooHigh,
+    /// 8: a bundle of two or more lots is worth less than the same with one lot fewer.
+    WorthFalls,
+    /// 11: `out` has fewer than 13 + m × (6 × (2^n − 1) + 1) bytes.
+    OutTooShort,
+}
+
+impl WriteRefusal {
+    /// Refuses with an answer's number, or not with number 0.
+    pub(crate) fn check(number: u8) -> Result<(), Self> {
+        Err(match number {
+            0 => return Ok(()),
+            3 => WriteRefusal::BuyerCount,
+            4 => WriteRefusal::LotCount,
+            5 => WriteRefusal::WrongLength,
+            7 => WriteRefusal::WorthTooHigh,
+            8 => WriteRefusal::WorthFalls,
+            11 => WriteRefusal::OutTooShort,
+            _ => panic!("libhokewhuni.a refused with {number}, which is no question of writing"),
+        })
+    }
+
+    /// The question's number: 3, 4, 5, 7, 8 or 11.
+    pub fn number(self) -> u8 {
+        match self {
+            WriteRefusal::BuyerCount => 3,
+            WriteRefusal::LotCount => 4,
+            WriteRefusal::WrongLength => 5,
+            WriteRefusal::WorthTooHigh => 7,
+            WriteRefusal::WorthFalls => 8,
+            WriteRefusal::OutTooShort => 11,
+        }
+    }
+}
+
+/// What the number means in words.
+impl Display for WriteRefusal {
+    fn fmt(&self, to: &mut Formatter) -> fmt::Result {
+        to.write_str(match self {
+            WriteRefusal::BuyerCount => "the number of buyers is not 1 to 6",
+            WriteRefusal::LotCount => "the number of lots is not 1 to 4",
+            WriteRefusal::WrongLength => {
+                "the list has not m * (2^n - 1) numbers, with m buyers and n lots"
+            }
+            WriteRefusal::WorthTooHigh => "a worth is above 9,999",
+            WriteRefusal::WorthFalls => {
+                "a bundle of two or more lots is worth less than the same with one lot fewer"
+            }
+            WriteRefusal::OutTooShort => {
+                "`out` has fewer than 13 + m * (6 * (2^n - 1) + 1) bytes, with m buyers and n lots"
+            }
+        })
+    }
+}
+
+impl Error for WriteRefusal {}

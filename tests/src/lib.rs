@@ -11,3 +11,4 @@ pub mod reckoning;
 pub mod sales;
 pub mod sheets;
 pub mod tally;
+pub mod writing;

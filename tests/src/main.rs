@@ -8,13 +8,18 @@ use std::process::ExitCode;
 use comparison::halves::compare;
 use comparison::sales;
 use comparison::sheets;
+use comparison::writing;
 
 fn main() -> ExitCode {
     compare(
         |tally, generator| {
             sheets::compare(tally, generator);
             sales::compare(tally, generator);
+            writing::compare(tally, generator);
         },
-        sales::compare_direct,
+        |tally, generator| {
+            sales::compare_direct(tally, generator);
+            writing::compare_round_trips(tally, generator);
+        },
     )
 }

@@ -11,7 +11,7 @@ use super::inputs::KINDS;
 use crate::generator::Generator;
 use crate::process::run;
 use crate::reckoning::print::{print_sale, LONGEST_RECORD, MOST_READ};
-use crate::reckoning::sheet::FIRST_LINE;
+use crate::reckoning::sheet::{bundles, FIRST_LINE, MOST_BUNDLES};
 use crate::tally::Tally;
 
 /// Inputs drawn of each kind.
@@ -19,6 +19,9 @@ const DRAWN: usize = 10;
 
 /// The buyer asked about.
 const BUYER: u32 = 2;
+
+/// The length of a buffer that has room for no sheet: one byte less than the shortest has.
+const TOO_SHORT: usize = 19;
 
 /// A printed sale has at most a line of four fields, four of two, and six of four.
 pub(super) const LONGEST_PRINT: usize = 25 + 4 * 13 + 6 * 25;
@@ -41,8 +44,8 @@ pub fn compare(tally: &mut Tally, generator: &mut Generator) {
     });
 }
 
-/// The constants, and every number of each entry's answer, a line for each; then the recorded sets
-/// and the print.
+/// The constants, and every number of each entry's answer, a line for each; then the recorded sets,
+/// the print, and what is written of the sheet's worths.
 fn answers(sheet: &[u8]) -> Vec<u8> {
     let field = raw::read_field(sheet, FIRST_LINE);
     let read = raw::read_sheet(sheet);
@@ -69,6 +72,27 @@ fn answers(sheet: &[u8]) -> Vec<u8> {
     ];
     let mut text = lines.map(|line| line + "\n").concat().into_bytes();
     text.extend(print_sale(sheet));
+    text.extend(written(&worths));
+    text
+}
+
+/// What is answered where the worths are written into a buffer that is too short, and into one that
+/// is not; and what the latter has. A refused sheet has no worths.
+fn written(read: &raw::Worths) -> Vec<u8> {
+    let rows = read.worths.chunks(MOST_BUNDLES).take(read.buyers.into());
+    let worths = rows.flat_map(|row| &row[1..=bundles(read.lots.into())]);
+    let worths: Vec<u32> = worths.map(|&worth| worth.into()).collect();
+    let mut out = [0; MOST_READ];
+    let mut text = Vec::new();
+    let mut write = |out: &mut [u8]| {
+        let wrote = raw::write_sheet(read.buyers.into(), read.lots.into(), &worths, out);
+        let line = each(&[wrote.number.into(), wrote.place, wrote.length]) + "\n";
+        text.extend(line.into_bytes());
+        wrote.length as usize
+    };
+    write(&mut out[..TOO_SHORT]);
+    let length = write(&mut out);
+    text.extend(&out[..length]);
     text
 }
 

@@ -43,9 +43,15 @@ fn whole(tally: &mut Tally, office: &Path) {
     tally.process("office, given the example", piped, &expected);
 }
 
-/// The last lines that it prints are the printed sale.
+/// The last lines that it prints are that the sheet is written with the same bytes, if it is not
+/// refused, and the printed sale.
 fn sell(tally: &mut Tally, mut command: Command, example: &Example) {
     command.arg(&example.path);
     let what = format!("{command:?}");
-    tally.process_last_lines(what, || run(&mut command, b""), &example.sale);
+    let mut lines = Vec::new();
+    if example.is_settled() {
+        lines.extend(format!("written: {} bytes, the same\n", example.sheet.len()).bytes());
+    }
+    lines.extend(&example.sale);
+    tally.process_last_lines(what, || run(&mut command, b""), &lines);
 }

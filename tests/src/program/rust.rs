@@ -10,6 +10,7 @@ use std::process::Command;
 use std::time::Duration;
 
 use hokewhuni::Refusal::{self, *};
+use hokewhuni::WriteRefusal;
 
 use super::examples::examples;
 use super::header::LONGEST_PRINT;
@@ -49,6 +50,16 @@ const REFUSALS: [Refusal; 10] = [
     NoSuchBuyer,
 ];
 
+/// Those of writing, with their numbers.
+const WRITE_REFUSALS: [(u8, WriteRefusal); 6] = [
+    (3, WriteRefusal::BuyerCount),
+    (4, WriteRefusal::LotCount),
+    (5, WriteRefusal::WrongLength),
+    (7, WriteRefusal::WorthTooHigh),
+    (8, WriteRefusal::WorthFalls),
+    (11, WriteRefusal::OutTooShort),
+];
+
 pub fn compare(tally: &mut Tally, generator: &mut Generator) {
     tally.group("the Rust crate", |tally| {
         tally.succeeds("the crate's numbers", numbers());
@@ -82,41 +93,55 @@ fn numbers() -> Result<(), String> {
     (numbers == expected).then_some(()).ok_or_else(wrong)
 }
 
-/// Each refusal says what the header says of its number, and may say more.
+/// Each refusal says what the header says of its number, and may say more. What it says of a number
+/// last is of writing.
 fn words() -> Result<(), String> {
     let header = in_repository("include/hokewhuni.h");
-    let header = told(fs::read_to_string(header))?;
-    let meanings = meanings(&header);
-    for (at, refusal) in REFUSALS.into_iter().enumerate() {
-        let meaning = meanings.get(at).map_or("", String::as_str);
-        let (says, number) = (refusal.to_string(), usize::from(refusal.number()));
-        if meaning.is_empty() || !says.starts_with(meaning) || number != at + 1 {
-            return Err(format!("{number}: \"{says}\" where \"{meaning}\" is meant"));
-        }
+    let meanings = meanings(&told(fs::read_to_string(header))?);
+    let check = |number: u8, (says, told): (String, u8), meaning: Option<&(u8, String)>| {
+        let meaning = meaning.map_or("", |(_, meaning)| meaning);
+        let right = told == number && !meaning.is_empty() && says.starts_with(meaning);
+        let wrong = || format!("{told}: \"{says}\" where {number} means \"{meaning}\"");
+        right.then_some(()).ok_or_else(wrong)
+    };
+    for (number, refusal) in (1..).zip(REFUSALS) {
+        let meaning = meanings.iter().find(|(of, _)| *of == number);
+        check(number, (refusal.to_string(), refusal.number()), meaning)?;
+    }
+    for (number, refusal) in WRITE_REFUSALS {
+        let meaning = meanings.iter().rfind(|(of, _)| *of == number);
+        check(number, (refusal.to_string(), refusal.number()), meaning)?;
     }
     Ok(())
 }
 
-/// The meanings of the numbers 1, 2, .. in the header: each from its number on to the next, or to
+/// The meanings of numbers in the header, in its order: each from its number on to the next, or to
 /// an empty line, without what it is only of.
-fn meanings(header: &str) -> Vec<String> {
-    let mut meanings: Vec<String> = Vec::new();
+fn meanings(header: &str) -> Vec<(u8, String)> {
+    let mut meanings: Vec<(u8, String)> = Vec::new();
+    let mut goes_on = false;
     let lines = header
         .lines()
         .map(|line| line.trim_start_matches(" *").trim());
-    for line in lines.skip_while(|line| !line.starts_with("1 ")) {
-        let number = format!("{}  ", meanings.len() + 1);
-        match (line.strip_prefix(&number), meanings.last_mut()) {
-            (Some(meaning), _) => meanings.push(String::from(meaning)),
-            (None, Some(meaning)) if !line.is_empty() => *meaning += &format!(" {line}"),
-            _ => break,
+    for line in lines {
+        let begun = line.split_once("  ").unwrap_or_default();
+        match (begun.0.parse(), meanings.last_mut()) {
+            (Ok(number), _) => {
+                meanings.push((number, String::from(begun.1)));
+                goes_on = true;
+            }
+            (_, Some((_, meaning))) if goes_on && !line.is_empty() => {
+                *meaning += &format!(" {line}");
+            }
+            _ => goes_on = false,
         }
     }
     let only = |meaning: String| match meaning.strip_prefix("only of ") {
         Some(rest) => rest.split_once(": ").unwrap_or_default().1.to_owned(),
         None => meaning,
     };
-    meanings.into_iter().map(only).collect()
+    let meanings = meanings.into_iter();
+    meanings.map(|(of, meaning)| (of, only(meaning))).collect()
 }
 
 /// Where the library is not found, the build says what to do.

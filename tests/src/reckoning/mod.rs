@@ -9,3 +9,4 @@ pub mod print;
 pub mod round;
 pub mod sale;
 pub mod sheet;
+pub mod writing;

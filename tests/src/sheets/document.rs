@@ -5,7 +5,7 @@ use crate::reckoning::sheet::{bundles, Refusal, Sheet, Table, MOST_BUYERS, MOST_
 use crate::tally::Tally;
 
 /// Accepted sheets, with their lots and each buyer's worths.
-const ACCEPTED: [(&str, usize, &[&[u16]]); 7] = [
+pub const ACCEPTED: [(&str, usize, &[&[u16]]); 7] = [
     // The example (rule 6.5).
     (
         "     2     2\n     2     0     2\n     0     1     3\n",

@@ -137,7 +137,7 @@ fn worth_faults(at: usize, bundle: usize) -> Vec<Fault> {
 }
 
 /// A sheet in which every bundle is worth more than each part of it.
-fn good_sheet(buyers: usize, lots: usize) -> Sheet {
+pub fn good_sheet(buyers: usize, lots: usize) -> Sheet {
     let mut worths = Table::default();
     for row in &mut worths[..buyers] {
         for (bundle, worth) in row[..=bundles(lots)].iter_mut().enumerate() {

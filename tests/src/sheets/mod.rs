@@ -5,7 +5,7 @@ use crate::tally::Tally;
 
 mod bytes;
 pub mod document;
-mod faults;
+pub mod faults;
 mod fields;
 mod lengths;
 mod monotone;

@@ -119,6 +119,21 @@ pub fn direct(answer: &Result<Direct, Refusal>) -> raw::Direct {
     }
 }
 
+pub fn wrote(answer: &Result<usize, Refusal>) -> raw::Wrote {
+    match answer {
+        Ok(length) => raw::Wrote {
+            number: 0,
+            place: 0,
+            length: *length as u32,
+        },
+        Err(refusal) => raw::Wrote {
+            number: refusal.number,
+            place: refusal.place as u32,
+            length: 0,
+        },
+    }
+}
+
 /// The ninety-six prices, or worths, in a row.
 pub fn flat(prices: &Prices) -> [u16; 96] {
     let mut row = [0; 96];

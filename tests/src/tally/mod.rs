@@ -15,6 +15,7 @@ mod prints;
 mod processes;
 mod safe;
 mod sales;
+mod writing;
 
 pub use direct::Pair;
 pub use processes::End;

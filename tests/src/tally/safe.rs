@@ -5,7 +5,7 @@ use std::array::from_fn;
 use std::fmt::{Debug, Display};
 
 use hokewhuni::Refusal::{self, *};
-use hokewhuni::Table;
+use hokewhuni::{Table, WriteRefusal};
 
 use super::difference;
 use crate::reckoning::demand::Demand;
@@ -49,6 +49,18 @@ fn refusal(refusal: &sheet::Refusal) -> Refusal {
         9 => RecordTooShort,
         10 => NoSuchBuyer,
         number => panic!("no question has number {number}"),
+    }
+}
+
+pub fn write_refusal(refusal: &sheet::Refusal) -> WriteRefusal {
+    match refusal.number {
+        3 => WriteRefusal::BuyerCount,
+        4 => WriteRefusal::LotCount,
+        5 => WriteRefusal::WrongLength,
+        7 => WriteRefusal::WorthTooHigh,
+        8 => WriteRefusal::WorthFalls,
+        11 => WriteRefusal::OutTooShort,
+        number => panic!("no question of writing has number {number}"),
     }
 }
 

@@ -11,8 +11,9 @@ use crate::reckoning::print::{printed, LONGEST_RECORD};
 use crate::reckoning::sale::{run_sale, Closing, Sale};
 use crate::reckoning::sheet::Refusal;
 
-/// From this number on, a buyer asked about is beyond the library's numbers, and absent.
-const BEYOND: usize = 1 << 32;
+/// From this number on, a number of the crate's is beyond the library's: it is that of no buyer,
+/// and nobody has so many buyers or lots.
+pub(super) const BEYOND: usize = 1 << 32;
 
 /// What a settled sale comes to: the bytes recorded, one for each round, and the closing.
 #[derive(Clone, Debug, PartialEq, Eq)]
