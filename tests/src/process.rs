@@ -67,13 +67,12 @@ pub fn run_into(
     end(child, LIMIT)
 }
 
-/// As `run`, where nobody reads the output any more when the input comes: for what writes nothing
-/// before it has its input.
+/// As `run`, where nobody reads the output.
 pub fn run_unread(command: &mut Command, input: &[u8]) -> io::Result<Ended> {
-    let mut child = start(command, Stdio::piped(), Stdio::piped())?;
-    drop(child.stdout.take());
-    feed(child.stdin.take(), &[input])?;
-    end(child, LIMIT)
+    let mut reader = start(&mut Command::new("true"), Stdio::piped(), Stdio::null())?;
+    let pipe = reader.stdin.take();
+    reader.wait()?;
+    run_into(command, input, pipe.ok_or(ErrorKind::NotFound)?)
 }
 
 fn start(command: &mut Command, input: Stdio, output: Stdio) -> io::Result<Child> {

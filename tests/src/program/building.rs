@@ -15,24 +15,24 @@ use crate::tally::Tally;
 /// The system's tools, and nothing of the kit.
 pub const SYSTEM: &str = "/usr/bin:/bin";
 
-/// Stands in for `rt`: notes each call, proves two crates, and makes a program that prints a line
-/// of what its source has, unless it has made that before. It waits for a file `go`, and fails for
-/// a source that is broken.
+/// Stands in for `rt`: notes each call, proves two crates, and makes the program of the second, which
+/// prints a line of what its source has, unless it has made that before. It waits for a file `go`,
+/// and fails for a source that is broken.
 const RT: &str = r#"#!/bin/sh
 echo "$@" >>"$NOTES/calls"
 mkdir -p target/log target/bin target/stamp
-for crate in first sale_main; do
+for crate in first "$2"; do
     echo "rt: $crate is begun" | tee target/log/$crate.out
     sleep 0.5
 done
 : >"$NOTES/begun"
 while [ ! -e "$NOTES/go" ]; do sleep 0.1; done
-text=$(cat crates/sale_main/src/main.rt)
+text=$(cat "crates/$2/src/main.rt")
 [ "$text" != broken ] || { echo "lib.rt:1:1: error: broken"; seq 30; exit 1; }
-[ "$text" != "$(cat target/stamp/sale_main)" ] || exit 0
-printf '#!/bin/sh\ncat >/dev/null\necho "settled by %s"\n' "$text" >target/bin/sale_main
-chmod +x target/bin/sale_main
-echo "$text" >target/stamp/sale_main
+[ "$text" != "$(cat "target/stamp/$2")" ] || exit 0
+printf '#!/bin/sh\ncat >/dev/null\necho "settled by %s"\n' "$text" >"target/bin/$2"
+chmod +x "target/bin/$2"
+echo "$text" >"target/stamp/$2"
 "#;
 
 /// How long a test waits for a build to begin or to end.
@@ -41,7 +41,11 @@ const PATIENCE: Duration = Duration::from_secs(60);
 /// What a sale says that finds another one building.
 const WAITING: &str = "hokewhuni: waiting for another build\n";
 
-/// A tree with the command and a program's source, and notes of what was built.
+/// The words of a sale, and of a list that is written.
+const SELL: &[&str] = &["sale"];
+const LIST: &[&str] = &["write", "1", "1", "7"];
+
+/// A tree with the command and the sources of its programs, and notes of what was built.
 struct Tree {
     folder: Folder,
 }
@@ -61,7 +65,7 @@ pub fn compare(tally: &mut Tally) {
 /// A test by its name. Each goes on with what the one before it left.
 type Test = (&'static str, fn(&Tree) -> Result<(), String>);
 
-const TESTS: [Test; 11] = [
+const TESTS: [Test; 12] = [
     ("no kit", no_kit),
     ("the first build", first),
     ("nothing changed", unchanged),
@@ -73,6 +77,7 @@ const TESTS: [Test; 11] = [
     ("a build that is interrupted", interrupted),
     ("a program that is gone", gone),
     ("a build that fails", failing),
+    ("two programs", two_programs),
 ];
 
 impl Tree {
@@ -80,15 +85,21 @@ impl Tree {
         let tree = Tree {
             folder: Folder::new("building")?,
         };
-        for folder in ["bin", "crates/first/src", "crates/sale_main/src"] {
+        for folder in [
+            "bin",
+            "crates/first/src",
+            "crates/sale_main/src",
+            "crates/write_main/src",
+        ] {
             told(fs::create_dir_all(tree.path(folder)))?;
         }
         copy_executable(&in_repository("hokewhuni"), &tree.path("hokewhuni"))?;
         tree.write(
             "crates.txt",
-            "# a comment\nfirst:\nother: first\nsale_main: first io\n",
+            "# a comment\nfirst:\nother: first\nsale_main: first io\nwrite_main: io first\n",
         )?;
         tree.write("crates/first/src/lib.rt", "one")?;
+        tree.write("crates/write_main/src/main.rt", "lists")?;
         tree.write("rt", RT)?;
         copy_executable(&tree.path("rt"), &tree.path("bin/rt"))?;
         tree.write("go", "")?;
@@ -110,9 +121,9 @@ impl Tree {
     }
 
     /// The command, with this path to find other commands by.
-    fn command(&self, path: &str) -> Command {
+    fn command(&self, path: &str, words: &[&str]) -> Command {
         let mut command = Command::new(self.path("hokewhuni"));
-        command.arg("sale").env("PATH", path);
+        command.args(words).env("PATH", path);
         command.env("NOTES", self.folder.path());
         command
     }
@@ -122,9 +133,14 @@ impl Tree {
         format!("{}:{SYSTEM}", self.path("bin").display())
     }
 
-    /// A sale with the stand-in on the path.
+    /// A command with the stand-in on the path.
+    fn run(&self, words: &[&str]) -> Result<Ended, String> {
+        let mut command = self.command(&self.with_rt(), words);
+        told(run_within(&mut command, PATIENCE))
+    }
+
     fn sell(&self) -> Result<Ended, String> {
-        told(run_within(&mut self.command(&self.with_rt()), PATIENCE))
+        self.run(SELL)
     }
 
     /// How often something was built.
@@ -134,8 +150,13 @@ impl Tree {
 
     /// A sale has to be by a program of this text, built in so many calls.
     fn expect(&self, text: &str, calls: usize) -> Result<Ended, String> {
+        self.expect_of(SELL, text, calls)
+    }
+
+    /// As `expect`, for any command.
+    fn expect_of(&self, words: &[&str], text: &str, calls: usize) -> Result<Ended, String> {
         let before = self.calls();
-        let ended = self.sell()?;
+        let ended = self.run(words)?;
         sold(&ended, text)?;
         let calls_made = self.calls() - before;
         require(calls_made == calls, || {
@@ -171,7 +192,7 @@ impl Tree {
     /// Starts another sale while one builds, and waits until it says that it waits.
     fn second(&self) -> Result<Child, String> {
         let errors = told(File::create(self.path("said")))?;
-        let mut sale = self.command(&self.with_rt());
+        let mut sale = self.command(&self.with_rt(), SELL);
         sale.stdin(Stdio::null()).stdout(Stdio::piped());
         let sale = told(sale.stderr(errors).spawn())?;
         until("no sale waits", || self.said().starts_with(WAITING))?;
@@ -197,7 +218,7 @@ fn until(wrong: &str, so: impl Fn() -> bool) -> Result<(), String> {
 const SOURCE: &str = "crates/sale_main/src/main.rt";
 
 fn no_kit(tree: &Tree) -> Result<(), String> {
-    let ended = told(run(&mut tree.command(SYSTEM), b""))?;
+    let ended = told(run(&mut tree.command(SYSTEM, SELL), b""))?;
     let said = "hokewhuni: the Rattle kit's command rt is not on the path\n";
     failed(&ended, said)
 }
@@ -206,26 +227,32 @@ fn no_kit(tree: &Tree) -> Result<(), String> {
 /// said twice, and `other` is none of the crates.
 fn first(tree: &Tree) -> Result<(), String> {
     let ended = tree.expect("one", 1)?;
+    builds(tree, &ended, "sale_main")
+}
+
+fn builds(tree: &Tree, ended: &Ended, name: &str) -> Result<(), String> {
     let errors = String::from_utf8_lossy(&ended.errors);
     let log = tree.path("target/built/log");
     let lines = [
         format!(
-            "hokewhuni: building sale_main and proving each of its functions, which takes some \
+            "hokewhuni: building {name} and proving each of its functions, which takes some \
              minutes; the log is {}\n",
             log.display()
         ),
         String::from("hokewhuni: proving crate 1 of 2, first\n"),
-        String::from("hokewhuni: proving crate 2 of 2, sale_main\n"),
+        format!("hokewhuni: proving crate 2 of 2, {name}\n"),
     ];
     require(errors == lines.concat(), || errors.to_string())?;
     let log = told(fs::read_to_string(log))?;
-    require(log.contains("rt: sale_main is begun"), || log.clone())
+    require(log.contains(&format!("rt: {name} is begun")), || {
+        log.clone()
+    })
 }
 
 /// The program is there: nothing is said, and the kit is not asked for.
 fn unchanged(tree: &Tree) -> Result<(), String> {
     quiet(&tree.expect("one", 0)?)?;
-    let ended = told(run(&mut tree.command(SYSTEM), b""))?;
+    let ended = told(run(&mut tree.command(SYSTEM, SELL), b""))?;
     sold(&ended, "one").and_then(|()| quiet(&ended))
 }
 
@@ -281,7 +308,7 @@ fn two_at_once(tree: &Tree) -> Result<(), String> {
 fn interrupted(tree: &Tree) -> Result<(), String> {
     tree.edit("eight")?;
     tree.hold();
-    let mut sale = tree.command(&tree.with_rt());
+    let mut sale = tree.command(&tree.with_rt(), SELL);
     let mut sale = told(sale.stdin(Stdio::null()).stderr(Stdio::null()).spawn())?;
     let begun = tree.begun();
     told(sale.kill().and_then(|()| sale.wait()))?;
@@ -315,6 +342,24 @@ fn failing(tree: &Tree) -> Result<(), String> {
     }
     tree.edit("ten")?;
     tree.expect("ten", 1).map(|_| ())
+}
+
+/// Each command builds its own program, of sources that are those of both; misused, none.
+fn two_programs(tree: &Tree) -> Result<(), String> {
+    let before = tree.calls();
+    let misused = tree.run(&LIST[..2])?;
+    require(misused.with(2) && tree.calls() == before, || {
+        format!("{misused:?}")
+    })?;
+    let ended = tree.expect_of(LIST, "lists", 1)?;
+    builds(tree, &ended, "write_main")?;
+    quiet(&tree.expect_of(LIST, "lists", 0)?)?;
+    quiet(&tree.expect("ten", 0)?)?;
+    tree.edit("eleven")?;
+    tree.expect("eleven", 1)?;
+    tree.expect_of(LIST, "lists", 1)?;
+    quiet(&tree.expect("eleven", 0)?)?;
+    quiet(&tree.expect_of(LIST, "lists", 0)?)
 }
 
 /// Status 0, and a line of the program's text.

@@ -22,7 +22,7 @@ const DRAWN: usize = 15;
 const SHEETS: [&str; 2] = ["examples/table-3.sheet", "examples/refusal-8.sheet"];
 
 /// What `-v` says of each number.
-const WORDS: [&str; 8] = [
+pub const WORDS: [&str; 8] = [
     "the sheet has fewer than 13 bytes",
     "the first line is not two good fields and a line end at offset 12",
     "the number of bidders is not 1 to 6",
@@ -50,7 +50,7 @@ const PLACES: [(&str, &str); 5] = [
 
 pub fn compare(tally: &mut Tally, generator: &mut Generator) {
     tally.group("the command", |tally| {
-        tally.succeeds("the first sale", first());
+        tally.succeeds("the first sale", first(&["sale", SHEETS[0]]));
         help(tally);
         misuse(tally);
         sales(tally);
@@ -61,7 +61,7 @@ pub fn compare(tally: &mut Tally, generator: &mut Generator) {
         }
         unreadable(tally);
         unwritable(tally);
-        unheard(tally);
+        unheard(tally, &["sale", "-v", SHEETS[1]]);
         environment(tally);
         terminal(tally);
     });
@@ -74,28 +74,28 @@ pub fn compare(tally: &mut Tally, generator: &mut Generator) {
     });
 }
 
-/// The first sale builds, which may take long.
-fn first() -> Result<(), String> {
-    match run_within(command().args(["sale", SHEETS[0]]), BUILDING) {
+/// The first run of a program builds it, which may take long.
+pub fn first(words: &[&str]) -> Result<(), String> {
+    match run_within(command().args(words), BUILDING) {
         Ok(ended) if ended.with(0) => Ok(()),
         ended => Err(format!("{ended:?}")),
     }
 }
 
 /// The command, run in the repository.
-fn command() -> Command {
+pub fn command() -> Command {
     let mut command = Command::new(in_repository("hokewhuni"));
     command.current_dir(in_repository("."));
     command
 }
 
 /// What is said on standard error.
-fn said(what: impl AsRef<str>) -> String {
+pub fn said(what: impl AsRef<str>) -> String {
     format!("hokewhuni: {}\n", what.as_ref())
 }
 
 /// Compares a run of the command with these words.
-fn ends(tally: &mut Tally, words: &[&str], input: &[u8], end: &End) {
+pub fn ends(tally: &mut Tally, words: &[&str], input: &[u8], end: &End) {
     let what = format!("hokewhuni {}", words.join(" "));
     tally.process_end(what, || run(command().args(words), input), end);
 }
@@ -113,7 +113,7 @@ fn help(tally: &mut Tally) {
         let text = tally.succeeds(words[0], printed(&words));
         tally.text(words[0], text.as_bytes(), list.as_bytes());
     }
-    for name in ["sale", "install", "help"] {
+    for name in ["sale", "write", "install", "help"] {
         let listed = list.contains(&format!("\n  {name} "));
         let missing = || format!("not in the list: {list}");
         tally.succeeds(name, listed.then_some(()).ok_or_else(missing));
@@ -248,85 +248,105 @@ fn unreadable(tally: &mut Tally) {
         run_from(command().arg("sale"), File::open(in_repository("."))?)
     });
     unread("open for writing", "the sheet can't be read", &|| {
-        run(&mut redirected("0>/dev/null"), b"")
+        run(&mut redirected(&["sale"], "0>/dev/null"), b"")
     });
     unread("closed", "standard input is closed", &|| {
-        run(&mut redirected("<&-"), b"")
+        run(&mut redirected(&["sale"], "<&-"), b"")
     });
 }
 
 /// The command with its input or output changed by the shell.
-fn redirected(change: &str) -> Command {
-    let mut command = Command::new("sh");
-    command.arg("-c").arg(format!("exec \"$0\" sale {change}"));
-    command.arg(in_repository("hokewhuni"));
-    command
+pub fn redirected(words: &[&str], change: &str) -> Command {
+    shell("sh", &format!("exec \"$0\" \"$@\" {change}"), words)
+}
+
+/// A shell, run in the repository, that gets the command as "$0" and words after it.
+pub fn shell(name: &str, line: &str, words: &[&str]) -> Command {
+    let mut shell = Command::new(name);
+    shell.args(["-c", line]).arg(in_repository("hokewhuni"));
+    shell.args(words).current_dir(in_repository("."));
+    shell
 }
 
 /// Outputs that can't be written, whatever would be printed.
 fn unwritable(tally: &mut Tally) {
-    let full = || OpenOptions::new().write(true).open("/dev/full");
     for sheet in SHEETS {
-        let change = format!("{sheet} >&-");
-        unwritten(tally, "closed", "standard output is closed", &|| {
-            run(redirected(&change).current_dir(in_repository(".")), b"")
-        });
-        unwritten(tally, "full", UNWRITTEN, &|| {
-            run_into(command().args(["sale", "-v", sheet]), b"", full()?)
-        });
-        unwritten(tally, "open for reading", UNWRITTEN, &|| {
-            let output = File::open("/dev/null")?;
-            run_into(command().args(["sale", sheet]), b"", output)
-        });
-        let text = tally.succeeds(sheet, text_of(sheet));
-        unwritten(tally, "read by nobody", UNWRITTEN, &|| {
-            run_unread(command().arg("sale"), text.as_bytes())
-        });
+        unwritten(tally, &["sale", "-v", sheet]);
     }
     for words in [&[][..], &["help", "sale"]] {
-        unwritten(tally, "full", UNWRITTEN, &|| {
-            run_into(command().args(words), b"", full()?)
-        });
+        unwritten(tally, words);
     }
 }
 
-const UNWRITTEN: &str = "the output could not be written";
-
-fn unwritten(tally: &mut Tally, name: &str, why: &str, run: &dyn Fn() -> io::Result<Ended>) {
-    let what = format!("hokewhuni, its output {name}");
-    tally.process_end(what, run, &End::saying(3, &said(why)));
+/// The command with these words and each output that can't be written.
+pub fn unwritten(tally: &mut Tally, words: &[&str]) {
+    let mut output = |name: &str, why: &str, run: &dyn Fn() -> io::Result<Ended>| {
+        let what = format!("hokewhuni {}, its output {name}", words.join(" "));
+        tally.process_end(what, run, &End::saying(3, &said(why)));
+    };
+    output("closed", "standard output is closed", &|| {
+        run(&mut redirected(words, ">&-"), b"")
+    });
+    let failed = "the output could not be written";
+    output("full", failed, &|| {
+        let full = OpenOptions::new().write(true).open("/dev/full")?;
+        run_into(command().args(words), b"", full)
+    });
+    output("open for reading", failed, &|| {
+        run_into(command().args(words), b"", File::open("/dev/null")?)
+    });
+    output("read by nobody", failed, &|| {
+        run_unread(command().args(words), b"")
+    });
 }
 
-/// What the environment sets for every bash makes no difference.
+/// What the environment may set for every bash, the last by the lines of a file.
+const SETTINGS: [(&str, &str); 4] = [
+    ("POSIXLY_CORRECT", "1"),
+    ("SHELLOPTS", "errexit"),
+    ("SHELLOPTS", "noclobber:noglob:posix"),
+    ("BASH_ENV", "/dev/stdin"),
+];
+
+/// The lines.
+const LINES: &[u8] = b"set -efC -o posix\n";
+
+/// What the environment sets makes no difference.
 fn environment(tally: &mut Tally) {
     let gone = said("examples/nowhere.sheet is not there");
     let closed = said("standard output is closed");
-    for (name, value) in [
-        ("POSIXLY_CORRECT", "1"),
-        ("SHELLOPTS", "errexit"),
-        ("SHELLOPTS", "noclobber:noglob:posix"),
-    ] {
-        let unread = || {
-            let words = ["sale", "examples/nowhere.sheet"];
-            run(command().args(words).env(name, value), b"")
-        };
-        let what = format!("hokewhuni with {name}={value}");
-        tally.process_end(&what, unread, &End::saying(2, &gone));
-        let unwritten = || run(redirected(">&-").env(name, value), b"");
-        tally.process_end(&what, unwritten, &End::saying(3, &closed));
+    set(
+        tally,
+        || redirected(&["sale", "examples/nowhere.sheet"], ""),
+        &End::saying(2, &gone),
+    );
+    set(
+        tally,
+        || redirected(&["sale"], ">&-"),
+        &End::saying(3, &closed),
+    );
+}
+
+/// A command that needs no input ends in the same way with every setting.
+pub fn set(tally: &mut Tally, command: impl Fn() -> Command, end: &End) {
+    for (name, value) in SETTINGS {
+        let mut command = command();
+        command.env(name, value);
+        let what = format!("{command:?}");
+        tally.process_end(what, || run(&mut command, LINES), end);
     }
 }
 
-/// What is said on standard error where nobody reads it makes no difference to the status.
-fn unheard(tally: &mut Tally) {
-    let line =
-        r#"{ sleep 0.3; exec "$0" sale -v "$1" >/dev/null; } 2>&1 | true; exit ${PIPESTATUS[0]}"#;
-    let mut bash = Command::new("bash");
-    bash.args(["-c", line])
-        .arg(in_repository("hokewhuni"))
-        .arg(in_repository(SHEETS[1]));
-    let what = "hokewhuni sale -v, its standard error read by nobody";
-    tally.process_end(what, || run(&mut bash, b""), &End::saying(1, ""));
+/// What is said of a refusal on standard error where nobody reads it makes no difference to the
+/// status.
+pub fn unheard(tally: &mut Tally, words: &[&str]) {
+    let line = r#"{ sleep 0.3; exec "$0" "$@" >/dev/null; } 2>&1 | true; exit ${PIPESTATUS[0]}"#;
+    let what = format!(
+        "hokewhuni {}, its standard error read by nobody",
+        words.join(" ")
+    );
+    let run = || run(&mut shell("bash", line, words), b"");
+    tally.process_end(what, run, &End::saying(1, ""));
 }
 
 /// A sheet that is typed at a terminal, which `script` provides, is announced; Ctrl-D ends it.
@@ -366,14 +386,16 @@ fn input(tally: &mut Tally, input: &[u8]) {
     tally.process_end(what, || run(command().args(["sale", "-v"]), input), &end);
 }
 
+/// What is said of a question in all cases.
+pub fn refused_by(number: u8, words: &str) -> String {
+    format!("refused by question {number}: {words}")
+}
+
 /// What is said of a refusal of an input.
 fn meaning(input: &[u8], refusal: &Refusal) -> String {
     let input = &input[..input.len().min(MOST_READ)];
     let (number, place) = (refusal.number, refusal.place);
-    let mut said = format!(
-        "refused by question {number}: {}",
-        WORDS[usize::from(number) - 1]
-    );
+    let mut said = refused_by(number, WORDS[usize::from(number) - 1]);
     if number == 5 {
         let [buyers, lots] = [5, 11].map(|at| usize::from(input[at] - b'0'));
         let more = if input.len() < MOST_READ {

@@ -4,7 +4,7 @@ use std::fs::{self, File};
 use std::io;
 use std::path::{Path, PathBuf};
 
-use super::{in_repository, program};
+use super::{in_repository, program, SALE};
 use crate::process::run_from;
 use crate::reckoning::print::print_sale;
 use crate::tally::Tally;
@@ -35,7 +35,7 @@ pub fn compare(tally: &mut Tally) {
     tally.group("examples", |tally| {
         for Example { path, sheet, sale } in tally.succeeds("the examples", examples()) {
             let name = path.display();
-            let run = || run_from(&mut program(), File::open(&path)?);
+            let run = || run_from(&mut program(SALE), File::open(&path)?);
             tally.process(format_args!("the program, given {name}"), run, &sale);
             let reckoned = print_sale(&sheet);
             tally.text(format_args!("the Rust print of {name}"), &reckoned, &sale);

@@ -1,6 +1,6 @@
 //! Random and damaged inputs, byte for byte against the Rust reckoning's print.
 
-use super::program;
+use super::{program, SALE};
 use crate::generator::{bytes_of, field, push_line, Generator};
 use crate::process::run;
 use crate::reckoning::print::{print_sale, MOST_READ};
@@ -80,7 +80,7 @@ pub fn compare(tally: &mut Tally, generator: &mut Generator) {
 /// Runs the program with an input.
 fn print(tally: &mut Tally, input: &[u8]) {
     let what = format_args!("the program, given \"{}\"", input.escape_ascii());
-    tally.process(what, || run(&mut program(), input), &print_sale(input));
+    tally.process(what, || run(&mut program(SALE), input), &print_sale(input));
 }
 
 /// A sheet with the greatest of question 9's sums.

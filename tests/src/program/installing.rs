@@ -8,14 +8,15 @@ use std::process::Command;
 use super::building::SYSTEM;
 use super::examples::examples;
 use super::folder::{copy_executable, Folder};
-use super::{in_repository, told, BUILDING};
+use super::{in_repository, told, BUILDING, SALE, WRITE};
 use crate::process::{run, run_within, Ended};
 use crate::tally::{End, Tally};
 
 /// What a folder has after an installation, besides the examples and what is there for Rust.
-const FILES: [&str; 5] = [
+const FILES: [&str; 6] = [
     "hokewhuni",
     "programs/sale_main",
+    "programs/write_main",
     "lib/libhokewhuni.a",
     "include/hokewhuni.h",
     "docs/TEACHER.md",
@@ -41,6 +42,7 @@ pub fn compare(tally: &mut Tally) {
         tally.succeeds("install", installed(install(), &first));
         files(tally, &first);
         sales(tally, &first);
+        list(tally, &first);
         // An installed copy installs others, by a relative path too.
         let again = || {
             let mut command = system(&first.join("hokewhuni"));
@@ -101,6 +103,21 @@ fn sales(tally: &mut Tally, folder: &Path) {
     }
 }
 
+/// A list, and its sale.
+fn list(tally: &mut Tally, folder: &Path) {
+    for (line, output) in [
+        ("write 2 1 5 3", "one-lot.sheet"),
+        ("write 2 1 5 3 | ./hokewhuni sale", "one-lot.sale"),
+    ] {
+        let output = fs::read(in_repository("examples").join(output));
+        let output = tally.succeeds(line, output);
+        let mut shell = system(Path::new("sh"));
+        shell.args(["-c", &format!("./hokewhuni {line}")]);
+        let run = || run(shell.current_dir(folder), b"");
+        tally.process(format_args!("an installed hokewhuni {line}"), run, &output);
+    }
+}
+
 /// The command by a link to it, from another folder.
 fn linked(tally: &mut Tally, other: &Path, folder: &Path) {
     let link = other.join("link");
@@ -153,14 +170,19 @@ fn not_a_folder(tally: &mut Tally, folder: &Path) {
     tally.process_end("install into a file", run, &end);
 }
 
-/// A program that prints nothing settles nothing.
+/// A program that prints nothing settles and writes nothing.
 fn empty_program(tally: &mut Tally, folder: &Path) {
-    let emptied = copy_executable(Path::new("/dev/null"), &folder.join("programs/sale_main"));
-    tally.succeeds("an empty program", emptied);
-    let mut command = system(&folder.join("hokewhuni"));
-    command
-        .args(["sale", "examples/table-3.sheet"])
-        .current_dir(folder);
-    let end = End::saying(4, "hokewhuni: the program sale_main failed\n");
-    tally.process_end("an empty program", || run(&mut command, b""), &end);
+    for (name, words) in [
+        (SALE, &["sale", "examples/table-3.sheet"][..]),
+        (WRITE, &["write", "2", "1", "5", "3"]),
+    ] {
+        let program = folder.join("programs").join(name);
+        let emptied = copy_executable(Path::new("/dev/null"), &program);
+        tally.succeeds("an empty program", emptied);
+        let mut command = system(&folder.join("hokewhuni"));
+        command.args(words).current_dir(folder);
+        let said = format!("hokewhuni: the program {name} failed\n");
+        let end = End::saying(4, &said);
+        tally.process_end("an empty program", || run(&mut command, b""), &end);
+    }
 }

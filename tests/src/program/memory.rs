@@ -1,9 +1,10 @@
-//! The program under valgrind, which finds reading and writing where nothing is lent.
+//! The programs under valgrind, which finds reading and writing where nothing is lent.
 
 use std::process::Command;
 
 use super::inputs::{KINDS, LONGEST};
-use super::program_path;
+use super::lists::{self, List};
+use super::{program_path, SALE, WRITE};
 use crate::generator::{bytes_of, Generator};
 use crate::process::run;
 use crate::reckoning::print::print_sale;
@@ -14,6 +15,9 @@ const SIZES: [(usize, usize); 5] = [(1, 1), (1, 4), (6, 1), (6, 4), (3, 2)];
 
 /// The greatest worth of these.
 const TOP: u16 = 12;
+
+/// Lists drawn.
+const DRAWN: usize = 8;
 
 pub fn compare(tally: &mut Tally, generator: &mut Generator) {
     tally.group("inputs under valgrind", |tally| {
@@ -27,12 +31,29 @@ pub fn compare(tally: &mut Tally, generator: &mut Generator) {
             print(tally, &draw(generator));
         }
     });
+    tally.group("lists under valgrind", |tally| {
+        for (buyers, lots) in SIZES {
+            let sheet = generator.monotone(buyers, lots);
+            write(tally, &List::of(&sheet));
+        }
+        for _ in 0..DRAWN {
+            write(tally, &lists::draw(generator));
+        }
+    });
 }
 
 fn print(tally: &mut Tally, input: &[u8]) {
-    let what = format_args!("valgrind, given \"{}\"", input.escape_ascii());
-    let run = || run(valgrind().arg(program_path()), input);
-    tally.process(what, run, &print_sale(input));
+    compare_program(tally, SALE, input, &print_sale(input));
+}
+
+fn write(tally: &mut Tally, list: &List) {
+    compare_program(tally, WRITE, &list.handed_on(), &list.print());
+}
+
+fn compare_program(tally: &mut Tally, name: &str, input: &[u8], output: &[u8]) {
+    let what = format_args!("valgrind {name}, given \"{}\"", input.escape_ascii());
+    let run = || run(valgrind().arg(program_path(name)), input);
+    tally.process(what, run, output);
 }
 
 /// The command before the program's path. It says nothing but errors, and has status 9 with one.

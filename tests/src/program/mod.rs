@@ -1,6 +1,6 @@
-//! The tests of the program that prints a sale, as a process; of the command that builds, runs and
-//! installs it; of the C header and example, which are compiled for it; of the Rust crate, which is
-//! built for it; and of the teacher's page.
+//! The tests of the programs that print a sale and write a sheet, as processes; of the command that
+//! builds, runs and installs them; of the C header and example, which are compiled for it; of the
+//! Rust crate, which is built for it; and of the teacher's page.
 
 use std::env;
 use std::fmt::Display;
@@ -20,12 +20,14 @@ mod header;
 mod inputs;
 mod installing;
 mod line_ends;
+mod lists;
 mod memory;
 mod office;
 mod pieces;
 mod rust;
 mod streams;
 mod teacher;
+mod writing;
 
 /// Building and proving may take this long.
 const BUILDING: Duration = Duration::from_secs(1_800);
@@ -33,13 +35,13 @@ const BUILDING: Duration = Duration::from_secs(1_800);
 /// Runs the groups of random inputs.
 pub fn compare_inputs(tally: &mut Tally, generator: &mut Generator) {
     inputs::compare(tally, generator);
+    lists::compare(tally, generator);
     pieces::compare(tally, generator);
 }
 
 /// Runs all other groups.
 pub fn compare(tally: &mut Tally, generator: &mut Generator) {
     examples::compare(tally);
-    teacher::compare(tally);
     streams::compare(tally);
     office::compare(tally);
     header::compare(tally, generator);
@@ -48,6 +50,8 @@ pub fn compare(tally: &mut Tally, generator: &mut Generator) {
     building::compare(tally);
     installing::compare(tally);
     command::compare(tally, generator);
+    writing::compare(tally, generator);
+    teacher::compare(tally);
     line_ends::compare(tally);
 }
 
@@ -61,14 +65,18 @@ fn told<T>(result: Result<T, impl Display>) -> Result<T, String> {
     result.map_err(|error| error.to_string())
 }
 
-/// The program. HOKEWHUNI_SALE names another.
-fn program_path() -> PathBuf {
-    match env::var_os("HOKEWHUNI_SALE") {
-        Some(path) => path.into(),
-        None => in_repository("target/bin/sale_main"),
+/// The programs, by their names.
+const SALE: &str = "sale_main";
+const WRITE: &str = "write_main";
+
+/// Where a program is. HOKEWHUNI_PROGRAMS names another folder.
+fn program_path(name: &str) -> PathBuf {
+    match env::var_os("HOKEWHUNI_PROGRAMS") {
+        Some(folder) => Path::new(&folder).join(name),
+        None => in_repository("target/bin").join(name),
     }
 }
 
-fn program() -> Command {
-    Command::new(program_path())
+fn program(name: &str) -> Command {
+    Command::new(program_path(name))
 }

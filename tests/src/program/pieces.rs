@@ -1,7 +1,8 @@
 //! Inputs that come in small pieces, one after another, as a pipe may give them.
 
 use super::inputs::KINDS;
-use super::program;
+use super::lists;
+use super::{program, SALE, WRITE};
 use crate::generator::Generator;
 use crate::process::run_in_pieces;
 use crate::reckoning::print::print_sale;
@@ -9,6 +10,9 @@ use crate::tally::Tally;
 
 /// Inputs drawn of each kind.
 const DRAWN: usize = 5;
+
+/// Lists drawn.
+const LISTS: usize = 20;
 
 /// The most bytes of a piece.
 const MOST: usize = 7;
@@ -18,13 +22,29 @@ pub fn compare(tally: &mut Tally, generator: &mut Generator) {
         for (_, draw) in KINDS {
             for most in [1, MOST].repeat(DRAWN) {
                 let input = draw(generator);
-                let pieces = pieces(generator, &input, most);
-                let what = format_args!("the program, given \"{}\"", input.escape_ascii());
-                let run = || run_in_pieces(&mut program(), &pieces);
-                tally.process(what, run, &print_sale(&input));
+                let output = print_sale(&input);
+                print(tally, generator, (SALE, most), &input, &output);
             }
         }
+        for most in [1, MOST].repeat(LISTS) {
+            let list = lists::draw(generator);
+            let (input, output) = (list.handed_on(), list.print());
+            print(tally, generator, (WRITE, most), &input, &output);
+        }
     });
+}
+
+/// Runs a program with an input in pieces up to the most bytes.
+fn print(
+    tally: &mut Tally,
+    generator: &mut Generator,
+    (name, most): (&str, usize),
+    input: &[u8],
+    output: &[u8],
+) {
+    let pieces = pieces(generator, input, most);
+    let what = format_args!("{name}, given \"{}\"", input.escape_ascii());
+    tally.process(what, || run_in_pieces(&mut program(name), &pieces), output);
 }
 
 /// The input cut into pieces of one byte up to the most.

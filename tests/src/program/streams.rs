@@ -1,28 +1,36 @@
 //! Standard input that has no bytes or cannot be read, and standard output that cannot be written.
-//! The program prints the refusal of what it could read, and ends.
+//! The program of a sale prints the refusal of what it could read; both end.
 
 use std::fs::{File, OpenOptions};
 use std::io;
 use std::process::{Command, Stdio};
 
-use super::{in_repository, program, program_path};
+use super::{in_repository, program, program_path, SALE, WRITE};
 use crate::process::{run, run_from, run_into, run_unread, Ended};
 use crate::tally::Tally;
 
 /// What is printed of fewer than 13 bytes (rule 3.1).
 const NO_SHEET: &[u8] = b"     1     0\n";
 
-/// A sheet that is settled and one that is refused.
-const SHEETS: [&[u8]; 2] = [
-    b"     2     2\n     2     0     2\n     0     1     3\n",
-    b"     2     2\n     4     0     3\n     0     1     3\n",
+/// A sheet that is settled and one that is refused; a list that is written and one that is refused.
+const INPUTS: [(&str, &[u8]); 4] = [
+    (
+        SALE,
+        b"     2     2\n     2     0     2\n     0     1     3\n",
+    ),
+    (
+        SALE,
+        b"     2     2\n     4     0     3\n     0     1     3\n",
+    ),
+    (WRITE, b"     2     1     5     3"),
+    (WRITE, b"     2     1     5"),
 ];
 
 pub fn compare(tally: &mut Tally) {
     tally.group("standard input without bytes", inputs);
     tally.group("standard output that cannot be written", |tally| {
-        for sheet in SHEETS {
-            outputs(tally, sheet);
+        for (name, input) in INPUTS {
+            outputs(tally, name, input);
         }
     });
 }
@@ -31,48 +39,48 @@ fn inputs(tally: &mut Tally) {
     let mut input = |name: &str, run: &dyn Fn() -> io::Result<Ended>| {
         tally.process(format_args!("the program, its input {name}"), run, NO_SHEET);
     };
-    input("an empty pipe", &|| run(&mut program(), b""));
-    input("no device", &|| run_from(&mut program(), Stdio::null()));
+    input("an empty pipe", &|| run(&mut program(SALE), b""));
+    input("no device", &|| run_from(&mut program(SALE), Stdio::null()));
     input("a folder", &|| {
-        run_from(&mut program(), File::open(in_repository("."))?)
+        run_from(&mut program(SALE), File::open(in_repository("."))?)
     });
-    input("closed", &|| run(&mut redirected("<&-"), b""));
+    input("closed", &|| run(&mut redirected(SALE, "<&-"), b""));
     input("open for writing", &|| {
-        run(&mut redirected("0>/dev/null"), b"")
+        run(&mut redirected(SALE, "0>/dev/null"), b"")
     });
 }
 
-fn outputs(tally: &mut Tally, sheet: &[u8]) {
-    let mut output = |name: &str, run: &dyn Fn() -> io::Result<Ended>| {
-        tally.process_ends(format_args!("the program, its output {name}"), run);
+fn outputs(tally: &mut Tally, name: &str, input: &[u8]) {
+    let mut output = |which: &str, run: &dyn Fn() -> io::Result<Ended>| {
+        tally.process_ends(format_args!("{name}, its output {which}"), run);
     };
     output("full", &|| {
         let full = OpenOptions::new().write(true).open("/dev/full")?;
-        run_into(&mut program(), sheet, full)
+        run_into(&mut program(name), input, full)
     });
-    output("closed", &|| run(&mut redirected(">&-"), sheet));
+    output("closed", &|| run(&mut redirected(name, ">&-"), input));
     output("open for reading", &|| {
-        run(&mut redirected("1</dev/null"), sheet)
+        run(&mut redirected(name, "1</dev/null"), input)
     });
-    output("read by nobody", &|| run_unread(&mut program(), sheet));
+    output("read by nobody", &|| run_unread(&mut program(name), input));
     output("read by nobody, without a signal", &|| {
-        run_unread(&mut without_signal(), sheet)
+        run_unread(&mut without_signal(name), input)
     });
 }
 
-/// The program with its input or output changed by the shell.
-fn redirected(change: &str) -> Command {
-    shell(&format!("exec \"$0\" {change}"))
+/// A program with its input or output changed by the shell.
+fn redirected(name: &str, change: &str) -> Command {
+    shell(name, &format!("exec \"$0\" {change}"))
 }
 
-/// The program with no signal for a pipe that nobody reads: writing fails instead.
-fn without_signal() -> Command {
-    shell("trap '' PIPE; exec \"$0\"")
+/// A program with no signal for a pipe that nobody reads: writing fails instead.
+fn without_signal(name: &str) -> Command {
+    shell(name, "trap '' PIPE; exec \"$0\"")
 }
 
-/// A shell that gets the program's path as "$0".
-fn shell(text: &str) -> Command {
+/// A shell that gets a program's path as "$0".
+fn shell(name: &str, text: &str) -> Command {
     let mut command = Command::new("sh");
-    command.arg("-c").arg(text).arg(program_path());
+    command.arg("-c").arg(text).arg(program_path(name));
     command
 }

@@ -1,17 +1,23 @@
-//! The rounds of table 3 on the teacher's page, row by row.
+//! The teacher's page: the rounds of table 3, row by row, and the lists, with what it says is printed
+//! of them.
 
 use std::fs;
 
+use super::command::shell;
 use super::in_repository;
+use crate::process::run;
 use crate::reckoning::allocation::{includes, only, Buyers};
 use crate::reckoning::demand::{demand, price, Prices};
 use crate::reckoning::round::{Market, Round};
 use crate::reckoning::sheet::{bundles, read_sheet, Sheet};
-use crate::tally::Tally;
+use crate::tally::{End, Tally};
 
 const PAGE: &str = "docs/TEACHER.md";
 
 const SHEET: &str = "examples/table-3.sheet";
+
+/// The page has so many lists.
+const LISTS: usize = 3;
 
 pub fn compare(tally: &mut Tally) {
     tally.group("the teacher's page", |tally| {
@@ -19,9 +25,43 @@ pub fn compare(tally: &mut Tally) {
         let bytes = tally.succeeds(SHEET, fs::read(in_repository(SHEET)));
         let sheet = read_sheet(&bytes).map_err(|refusal| format!("{refusal:?}"));
         let rows = tally.succeeds(SHEET, sheet.map(|sheet| rows(&sheet)));
-        let table = table(&String::from_utf8_lossy(&page));
+        let page = String::from_utf8_lossy(&page);
+        let table = table(&page);
         tally.text("the rounds of table 3", table.as_bytes(), rows.as_bytes());
+        let lists = lists(&page);
+        let all = (lists.len() == LISTS).then_some(());
+        tally.succeeds("the lists", all.ok_or_else(|| format!("{lists:?}")));
+        for (line, lines) in lists {
+            let end = End {
+                status: lines.contains("refused by").into(),
+                output: lines.as_bytes(),
+                errors: b"",
+            };
+            let both = format!("{line} 2>&1");
+            tally.process_end(&line, || run(&mut shell("sh", &both, &[]), b""), &end);
+        }
     });
+}
+
+/// Each command line of the page that has a list, with the indented lines that follow next.
+fn lists(page: &str) -> Vec<(String, String)> {
+    let mut blocks = page.split("\n\n").filter_map(block);
+    let mut lists = Vec::new();
+    while let Some(block) = blocks.next() {
+        if block.starts_with("./hokewhuni write ") {
+            let line = block.trim_end().to_string();
+            lists.push((line, blocks.next().unwrap_or_default()));
+        }
+    }
+    lists
+}
+
+/// The lines of a paragraph that is indented, without that.
+fn block(paragraph: &str) -> Option<String> {
+    let lines = paragraph.lines();
+    lines
+        .map(|line| Some(format!("{}\n", line.strip_prefix("    ")?)))
+        .collect()
 }
 
 /// The rows below the page's heading of rounds.
