@@ -88,7 +88,12 @@ pub extern "C" fn hokewhuni_print_sale(sheet: &[u8], log: &mut [u8], out: &mut [
 
 // Writes nothing where a question gets a no.
 #[no_mangle]
-pub extern "C" fn hokewhuni_write_sheet(buyers: u32, lots: u32, worths: &[u32], out: &mut [u8]) -> Wrote
+pub extern "C" fn hokewhuni_write_sheet(
+    buyers: u32,
+    lots: u32,
+    worths: &[u32],
+    out: &mut [u8],
+) -> Wrote
     ensures { λ r. ⌜ WriteSays buyers lots (now (worths .entry)) (now (out .entry)) (now (out .exit)) r ⌝ }
 {
     writing::write_sheet(buyers, lots, worths, out)

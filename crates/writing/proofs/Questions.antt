@@ -114,6 +114,15 @@ tells (suc (suc (suc (suc zero)))) h = (omega arith, refl)
 tells (suc (suc (suc (suc (suc zero))))) h = (omega arith, refl)
 tells (suc (suc (suc (suc (suc (suc j)))))) h = absurd (omega arith)
 
+low-number : (j : ℕ) → j < 6 → number j ≤ 11
+low-number zero h = omega arith
+low-number (suc zero) h = omega arith
+low-number (suc (suc zero)) h = omega arith
+low-number (suc (suc (suc zero))) h = omega arith
+low-number (suc (suc (suc (suc zero)))) h = omega arith
+low-number (suc (suc (suc (suc (suc zero))))) h = omega arith
+low-number (suc (suc (suc (suc (suc (suc j)))))) h = omega arith
+
 module _ (m n : ℕ) (vs : List ℕ) (room : ℕ) where
   abbrev from : ℕ → List (Type 0)
   from j = drop j (listQuestions m n vs room)
@@ -150,6 +159,11 @@ module _ (m n : ℕ) (vs : List ℕ) (room : ℕ) where
   write-numbers =
       elim (first-told number (from 0) (writeFault m n vs room .number) list-first)
       [ inl (z, _) ↦ inl z | inr (j, l, e, _) ↦ inr (j, l, e) ]
+
+  -- 11 is the greatest number
+  pub write-range : writeFault m n vs room .number ≤ 11
+  write-range =
+      elim write-numbers [ inl z ↦ omega arith | inr (j, l, e) ↦ let low = low-number j l in omega (arith, low) ]
 
 ask-place : (k : ℕ) (x : Bool) (rest : Unit {0} → Fault) → (rest tt) .place ≡ 0 → ask k x rest .place ≡ 0
 ask-place k x rest h = by-test x (λ e. rw e h) (λ e. rw e refl)

@@ -1,23 +1,25 @@
 -- What `sheet_text` answers, of a sheet that is written (`text-written`) or refused (`text-refused`); what is printed of
--- numbers is what is written of them (`text-says`, `typed-fields`), and it is never long (`text-longest`,
--- `text-within`). Assumes nothing.
+-- numbers is what is written of them (`text-says`, `typed-fields`), and no other bytes are written (`text-fields`); it is
+-- never long (`text-longest`, `text-within`). Assumes nothing.
 use mathlib.Core.Path.{_≡_, refl, sym, ap, ap₂, subst₂, _∙_}
 use mathlib.Core.Logic.{_≢_}
 use mathlib.Core.List.{List, [], _∷_, _++_}
-use Prim.Native.Nat.{ℕ, zero, suc, min, _+_, _-_, _*_, _/_, _≤_, _<_}
+use Prim.Native.Nat.{ℕ, zero, suc, min, _+_, _-_, _*_, _/_, _^_, _≤_, _<_}
 use native.Mathlib.Nat.{pow-le-pow-right}
 use native.Mathlib.Omega.{arith}
 use native.Mathlib.Decide.{ℕ-discrete, decLe}
 use lib.Dec.{lit<}
-use lib.ListN.{length, take, drop, getD, replicate, length-replicate}
+use lib.ListN.{length, take, drop, getD, replicate, length-replicate, length-drop, take-append-drop}
 use lib.Seq.{take-all, take-at, drop-at, drop-drop, ext-getD}
 use borrow.Author.Tests.{eq-eqb, ne-eqb}
 use Rattle.theory.specs.Sums.{pick}
 use Rattle.theory.specs.Lists.{tabulate, over}
 use Rattle.theory.proofs.Over.{over-long}
-use Rattle.theory.proofs.Lists.{tabulate-at, tabulate-length, tabulate-take}
+use Rattle.theory.proofs.Lists.{tabulate-at, tabulate-length, tabulate-take, tabulate-shift}
 use Rattle.numbers.proofs.Numbers.{product-small}
-use Rattle.fields.specs.Fields.{columns, fieldsOf, lineOf}
+use Rattle.fields.specs.declared.Field.{Field}
+use Rattle.fields.specs.declared.Field.the-variants.{Number, Faulty}
+use Rattle.fields.specs.Fields.{columns, fieldsOf, lineOf, fieldAt}
 use Rattle.fields.proofs.Canonical.{field-canonical}
 use Rattle.fields.proofs.Lines.{columns-length, fields-length, line-length}
 use Rattle.sheet.specs.declared.Fault.{Fault}
@@ -27,6 +29,7 @@ use Rattle.writing.specs.declared.SheetText.{SheetText}
 use Rattle.writing.specs.Lists.{sheetBytes}
 use Rattle.writing.specs.Answers.{writeFault, WriteSays, orTooLarge, typed, typedList, firstTyped}
 use Rattle.writing.specs.Answers.{sheetText, sheetTextOf}
+use Rattle.writing.specs.Claims.{ListQuestion}
 use Rattle.writing.proofs.Questions.{write-place, write-all-yes}
 use Rattle.writing.proofs.Answers.{sheet-length, told-number, told-place, told-refused, told-written}
 use Rattle.writing.proofs.Limits.{count-small, bytes-small, room-alike, write-cut}
@@ -159,8 +162,15 @@ pub text-within : (b : List ℕ) (r : SheetText) → r ≡ sheetTextOf b → r .
 text-within b r e =
     let long = ap (λ (x : SheetText). x .length) e in
     let bytes = ap (λ (x : SheetText). length (x .bytes)) e in
-    omega (arith, text-longest b, long, bytes, over-long (sheetText b) (replicate 559 0)
-    (omega (arith, text-longest b, length-replicate {A = ℕ} 559 0)), length-replicate {A = ℕ} 559 0)
+    omega (
+      arith,
+      text-longest b,
+      long,
+      bytes,
+      over-long (sheetText b) (replicate 559 0)
+          (omega (arith, text-longest b, length-replicate {A = ℕ} 559 0)),
+      length-replicate {A = ℕ} 559 0,
+    )
 
 -- numbers in fields are read as they are
 field-in : (l : List ℕ) (k : ℕ) → k < length l →
@@ -196,3 +206,71 @@ typed-fields m n vs small =
           tabulate-at (length vs) 2 (typed b) k 0 less ∙ ap (typed b) place
           ∙ typed-in l (suc (suc k)) (omega arith) (small (suc (suc k)))),
     )
+
+-- and bytes that are written are numbers in fields
+good-field : (f : Field) → orTooLarge f ≤ 9999 → f ≡ Number (orTooLarge f)
+good-field (Number v) h = refl
+good-field (Faulty at) h = absurd (omega arith)
+
+fields-all : (k : ℕ) (b : List ℕ) (g : ℕ → ℕ) → length b ≡ 6 * k →
+    ((j : ℕ) → j < k → take 6 (drop (6 * j) b) ≡ columns 6 (g j)) → b ≡ fieldsOf (tabulate k 0 g)
+fields-all zero [] g long each = refl
+fields-all zero (x ∷ b) g long each = absurd (omega arith)
+fields-all (suc k) b g long each =
+    let rest : drop 6 b ≡ fieldsOf (tabulate k 1 g) =
+    fields-all k (drop 6 b) (λ j. g (suc j)) (rw length-drop (omega arith)) (λ j h.
+    let six : 6 + 6 * j ≡ 6 * suc j = omega arith in
+    ap (take 6) (drop-drop (6 * j) 6 b ∙ ap (λ i. drop i b) six) ∙ each (suc j) (omega arith))
+    ∙ ap fieldsOf (sym (tabulate-shift k 0 g)) in
+    sym (take-append-drop 6 b) ∙ ap₂ _++_ (each 0 (omega arith)) rest
+
+module _ (b : List ℕ) (long : 13 < length (sheetText b)) where
+  abbrev l : List ℕ
+  l = typed b 0 ∷ typed b 1 ∷ typedList b
+
+  yes-to : (j : ℕ) → ListQuestion (typed b 0) (typed b 1) (typedList b) 559 j
+  yes-to =
+      write-all-yes (typed b 0) (typed b 1) (typedList b) 559 .0
+      (elim (ℕ-discrete (f b .number) 0) [
+        | yes z ↦ z
+        | no h ↦ absurd (omega (arith, ap length (refused-text b h), line-length (f b .number ∷ 0 ∷ [])))
+      ])
+
+  small : (k : ℕ) → getD l k 0 ≤ 9999
+  small zero = omega (arith, yes-to 0)
+  small (suc zero) = omega (arith, yes-to 1)
+  small (suc (suc k)) = yes-to 3 k
+
+  abbrev many : ℕ
+  many = (length b + 5) / 6 - 2
+
+  some : 1 ≤ many
+  some =
+      omega (
+        arith,
+        yes-to 2,
+        tabulate-length many 2 (typed b),
+        product-small 1 1 (typed b 0) (2 ^ typed b 1 - 1)
+            (yes-to 0 .0) (omega (arith, pow-le-pow-right {n = 2} (lit< tt) (yes-to 1 .0))),
+      )
+
+  each : (k : ℕ) → k < 2 + many → (6 * k + 6 ≤ length b) × (take 6 (drop (6 * k) b) ≡ columns 6 (typed b k))
+  each k h =
+      let is : getD l k 0 ≡ typed b k = at-place k h in
+      let (room, _, columns-are) = field-canonical b (6 * k) (typed b k) .0
+      (good-field (fieldAt (6 * k) b) (omega (arith, is, small k))) in
+      (room, columns-are)
+    where
+      at-place : (k : ℕ) → k < 2 + many → getD l k 0 ≡ typed b k
+      at-place zero h = refl
+      at-place (suc zero) h = refl
+      at-place (suc (suc k)) h =
+          let next : 2 + k ≡ suc (suc k) = omega arith in
+          tabulate-at many 2 (typed b) k 0 (omega arith) ∙ ap (typed b) next
+
+  pub text-fields : (b ≡ fieldsOf l) × ((k : ℕ) → getD l k 0 ≤ 9999)
+  text-fields = (
+    fields-all (suc (suc many)) b (typed b) (omega (arith, some, each (1 + many) (omega arith) .0))
+        (λ j h. each j (omega arith) .1),
+    small,
+  )

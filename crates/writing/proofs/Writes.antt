@@ -4,7 +4,7 @@ use Rattle.writing.proofs.Questions.{write-first-no, write-all-yes, wri
 use Rattle.writing.proofs.Answers.{told-number, told-place, told-refused}
 use Rattle.writing.proofs.Trips.{same-questions, written-read, in-order, read-written}
 use Rattle.writing.proofs.Limits.{never-eleven, write-capped, write-cut}
-use Rattle.writing.proofs.Texts.{typed-fields, text-says, text-longest}
+use Rattle.writing.proofs.Texts.{typed-fields, text-says, text-longest, text-fields}
 
 pub writes-all : Writes
 writes-all =
@@ -27,4 +27,5 @@ writes-all =
       typed-fields = typed-fields;
       text-says = text-says;
       text-longest = text-longest;
+      text-fields = text-fields;
     }

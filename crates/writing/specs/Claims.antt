@@ -77,3 +77,6 @@ pub record Writes : Type 0 where
       (r .number ≡ 0 → (sheetText b ≡ take (r .length) o′) × (20 ≤ length (sheetText b)))
       × (r .number ≢ 0 → sheetText b ≡ lineOf (r .number ∷ r .place ∷ []))
   pub text-longest : (b : List ℕ) → length (sheetText b) ≤ 559
+  -- and no bytes are written but numbers in six columns each
+  pub text-fields : (b : List ℕ) → 13 < length (sheetText b) → let l = typed b 0 ∷ typed b 1 ∷ typedList b in
+      (b ≡ fieldsOf l) × ((k : ℕ) → getD l k 0 ≤ 9999)
