@@ -1,5 +1,5 @@
--- Writing a sheet: what `write_sheet` answers, refused or not (`write-claim`), that an accepted sheet is written again as
--- it is (`rewrites`), and what is printed of numbers (`typed-text`, `untyped`). Assumes nothing.
+-- Writing a sheet: what `write_sheet` answers, refused or not (`write-claim`), that an accepted sheet is written again
+-- as it is (`rewrites`), and what is printed of numbers (`typed-text`, `untyped`). Assumes nothing.
 use mathlib.Core.Path.{_≡_, refl, sym, ap, ap₂, subst, _∙_}
 use mathlib.Core.Logic.{_≢_, _↔_, inl, inr}
 use mathlib.Core.List.{List, [], _∷_, _++_}
@@ -45,7 +45,12 @@ module _ (m n : ℕ) (l : List ℕ) where
       elim (ℕ-discrete s (2 ^ j)) [
         | yes e ↦ let z : s - 2 ^ j ≡ 0 = omega arith in omega (arith, ap (listed m n l i) z)
         | no apart ↦
-            omega (arith, q (i - 1) s j (omega arith) h (bit-below n j s h t) t apart, by-line i s, by-line i (s - 2 ^ j))
+            omega (
+              arith,
+              q (i - 1) s j (omega arith) h (bit-below n j s h t) t apart,
+              by-line i s,
+              by-line i (s - 2 ^ j),
+            )
       ]
 
   grow-to : (room : ℕ) → Growing m n l → ListQuestion m n l room 4
@@ -171,7 +176,8 @@ module _ (b : List ℕ) (y : Accepted b) (l : List ℕ) (right : length l ≡ y 
   unfolding sheetBytes
   same-bytes =
       y .bytes
-      ∙ bytes-same (listSheet (y .m) (y .n) l) (y .v) (y .buyers .1) (y .lots .1) (y .small) (λ i s h _ g. on-sheet i s h g)
+      ∙ bytes-same (listSheet (y .m) (y .n) l) (y .v) (y .buyers .1) (y .lots .1) (y .small) (λ i s h _ g.
+      on-sheet i s h g)
 
   asked : (room : ℕ) → length b ≤ room → (j : ℕ) → ListQuestion (y .m) (y .n) l room j
   asked room long zero = y .buyers
@@ -225,7 +231,8 @@ typed-text m n l b x x′ w e small long says =
         λ z. written z .0,
         λ h. refused h ∙ ap (λ p. fields.lineOf (w .number ∷ p ∷ [])) none
             ∙ sym (line-same (w .number ∷ 0 ∷ []) (λ k.
-            omega (arith, two-small 1000000 (w .number) 0 (omega (arith, low, write-range m n l (length x))) (omega arith) k))),
+            let few = write-range m n l (length x) in
+            omega (arith, two-small 1000000 (w .number) 0 (omega (arith, low, few)) (omega arith) k))),
       ),
     )
 
@@ -234,4 +241,5 @@ pub untyped : (b : List ℕ) → 13 < sheetTextOf b .length →
 untyped b long =
     let (is, small) = text-fields b long in
     let l = typed b 0 ∷ typed b 1 ∷ typedList b in
-    (typed b 0, (typed b 1, (typedList b, ap (λ c. c ++ (10 ∷ [])) is ∙ sym (line-same l (λ k. omega (arith, small k))))))
+    let told = ap (λ c. c ++ (10 ∷ [])) is ∙ sym (line-same l (λ k. omega (arith, small k))) in
+    (typed b 0, (typed b 1, (typedList b, told)))

@@ -89,7 +89,8 @@ module _ (b : List ℕ) (w : Sheet) (buyers : (1 ≤ w .buyers) × (w .buyers �
       told (suc (suc (suc zero))) h = buyers
       told (suc (suc (suc (suc zero)))) h = lots
       told (suc (suc (suc (suc (suc zero))))) h = written .long
-      told (suc (suc (suc (suc (suc (suc zero)))))) h = (λ i c h g. (worth w i (suc c), worth-read i c h g), written .ends)
+      told (suc (suc (suc (suc (suc (suc zero)))))) h =
+          (λ i c h g. (worth w i (suc c), worth-read i c h g), written .ends)
       told (suc (suc (suc (suc (suc (suc (suc k))))))) h = absurd (omega arith)
 
 pub written-accepted : (b : List ℕ) (w : Sheet) → Shape w → Written b w → Grows w →

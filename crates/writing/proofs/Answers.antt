@@ -11,15 +11,15 @@ use lib.ListN.{length, take, drop, getD}
 use borrow.Author.Tests.{eq-eqb, ne-eqb}
 use borrow.Rule.Slice.PartMut.{putMid}
 use Rattle.theory.specs.Sums.{pick, when}
-use Rattle.theory.specs.Lists.{tabulate, over}
+use Rattle.theory.specs.Lists.{over}
 use Rattle.theory.proofs.Over.{over-long, over-then}
-use Rattle.fields.specs.Fields.{lineOf, linesOf}
+use Rattle.fields.specs.Fields.{lineOf}
 use Rattle.fields.proofs.Lines.{line-length, lines-length}
 use Rattle.sheet.specs.declared.Fault.{Fault}
 use Rattle.sheet.specs.Sheets.{lineLength, lineWorths}
 use Rattle.sheet.proofs.Writing.{bytes-written, row-long}
 use Rattle.writing.specs.declared.Wrote.{Wrote}
-use Rattle.writing.specs.Lists.{listSheet, sheetBytes}
+use Rattle.writing.specs.Lists.{listSheet, rowBytes, sheetBytes}
 use Rattle.writing.specs.Answers.{writeFault, writeAnswer, writtenOver, WriteSays}
 use Rattle.writing.proofs.Questions.{write-place}
 
@@ -34,13 +34,12 @@ module _ (m n : ℕ) (vs o l last : List ℕ) (room : 13 + m * lineLength n ≤ 
   first-long = ap length e ∙ over-long (lineOf (m ∷ n ∷ [])) o (omega (arith, line-length (m ∷ n ∷ [])))
 
   pub parts-written :
-      last ≡ over (linesOf (tabulate m 0 (lineWorths (listSheet m n vs)))) (take (length l - 13) (drop 13 l)) →
+      last ≡ over (rowBytes m n vs) (take (length l - 13) (drop 13 l)) →
       putMid 13 (length l - 13) l last ≡ over (sheetBytes m n vs) o
   unfolding sheetBytes
   parts-written g =
-      let rows = linesOf (tabulate m 0 (lineWorths (listSheet m n vs))) in
       let long = lines-length (lineWorths (listSheet m n vs)) (lineLength n) (row-long (listSheet m n vs)) m 0 in
-      over-then (lineOf (m ∷ n ∷ [])) rows o l last 13 (line-length (m ∷ n ∷ []))
+      over-then (lineOf (m ∷ n ∷ [])) (rowBytes m n vs) o l last 13 (line-length (m ∷ n ∷ []))
       (omega (arith, long, mul-comm m (lineLength n))) e g
 
 abbrev wrote : ℕ → ℕ → ℕ → Wrote

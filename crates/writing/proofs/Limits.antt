@@ -1,5 +1,5 @@
--- What bounds a list: 559 bytes have room for every sheet (`never-eleven`, `room-alike`); a list of more than 91 numbers is refused as
--- one of 91 is (`write-cut`), and numbers above 999,999 as that is (`write-capped`). Assumes nothing.
+-- What bounds a list: 559 bytes have room for every sheet (`never-eleven`, `room-alike`); a list of more than 91 numbers
+-- is refused as one of 91 is (`write-cut`), and numbers above 999,999 as that is (`write-capped`). Assumes nothing.
 use mathlib.Core.Path.{_≡_, refl, sym, ap, _∙_}
 use mathlib.Core.Logic.{_≢_}
 use mathlib.Core.Bool.{Bool, true, false}
@@ -40,7 +40,9 @@ module _ (m n : ℕ) (vs us : List ℕ) (room : ℕ) where
       writeFault m n vs room ≡ writeFault m n us room
   asked-alike same =
       by-test (between 6 m)
-      (λ e3. by-test (between 4 n) (λ e4. same e3 e4) (λ e4. bad-lots m n vs room e3 e4 ∙ sym (bad-lots m n us room e3 e4)))
+      (λ e3. by-test (between 4 n)
+      (λ e4. same e3 e4)
+      (λ e4. bad-lots m n vs room e3 e4 ∙ sym (bad-lots m n us room e3 e4)))
       (λ e3. bad-buyers m n vs room e3 ∙ sym (bad-buyers m n us room e3))
 
 -- from 559 bytes on the buffer makes no difference
@@ -130,7 +132,8 @@ module _ (m n : ℕ) (vs : List ℕ) (room : ℕ) where
       let en : cap n ≡ n = omega (arith, between-means 4 n .0 e4) in
       ap (λ x. writeFault x (cap n) (map cap vs) room) em ∙ ap (λ x. writeFault m x (map cap vs) room) en ∙ capped-list)
       (λ e4.
-      bad-lots (cap m) (cap n) (map cap vs) room (cap-between 6 m (omega arith) ∙ e3) (cap-between 4 n (omega arith) ∙ e4)
+      bad-lots (cap m) (cap n) (map cap vs) room (cap-between 6 m (omega arith) ∙ e3)
+      (cap-between 4 n (omega arith) ∙ e4)
       ∙ sym (bad-lots m n vs room e3 e4)))
       (λ e3.
       bad-buyers (cap m) (cap n) (map cap vs) room (cap-between 6 m (omega arith) ∙ e3)

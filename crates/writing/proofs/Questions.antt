@@ -148,8 +148,11 @@ module _ (m n : ℕ) (vs : List ℕ) (room : ℕ) where
   pub write-first-no : (j : ℕ) → j < 6 → (writeFault m n vs room .number ≡ number j)
       ↔ (((i : ℕ) → i < j → ListQuestion m n vs room i) × (ListQuestion m n vs room j → ⊥))
   write-first-no j h =
-      let (to, from-no) = first-iff number back (from 0) (writeFault m n vs room .number) tells list-first j (tells j h) in
-      (λ e. let no-at = to e in (no-at .before, no-at .there), λ (before, there). from-no (record { before = before; there = there }))
+      let (to, from-no) = first-iff number back (from 0) (writeFault m n vs room .number) tells list-first j
+      (tells j h) in (
+        λ e. let no-at = to e in (no-at .before, no-at .there),
+        λ (before, there). from-no (record { before = before; there = there }),
+      )
 
   pub write-all-yes : (writeFault m n vs room .number ≡ 0) ↔ ((j : ℕ) → ListQuestion m n vs room j)
   write-all-yes = first-none number back (from 0) (writeFault m n vs room .number) tells list-first

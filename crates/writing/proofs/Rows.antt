@@ -1,5 +1,6 @@
--- A list's numbers as the sheet that it fills has them (`listed-worth`), and line by line (`row-is`). Assumes a list of
--- the right length, of at most six buyers and four lots.
+-- A list's numbers as the sheet that it fills has them (`listed-worth`), and line by line: where a line stands in the list
+-- (`row-within`) and in the buffer (`lines-within`, `row-fits`), and what it has (`row-is`, `row-small`). Assumes a list
+-- that `Fills` a sheet.
 use mathlib.Core.Path.{_≡_, sym, ap, _∙_}
 use mathlib.Core.List.{List}
 use Prim.Native.Nat.{ℕ, suc, _+_, _-_, _*_, _^_, _≤_, _<_}
@@ -12,29 +13,36 @@ use Rattle.theory.proofs.Lists.{tabulate-at, tabulate-length}
 use Rattle.numbers.proofs.Numbers.{pow-some}
 use Rattle.sheet.specs.Sheets.{lineLength, Sheet, worth, lineWorths}
 use Rattle.sheet.proofs.Tables.{table-there}
-use Rattle.writing.specs.Lists.{listed, listSheet}
+use Rattle.writing.specs.Lists.{listed, listSheet, Fills}
 
-module _ (m n : ℕ) (vs : List ℕ) (few : m ≤ 6) (low : n ≤ 4) where
+module _ (m n : ℕ) (vs : List ℕ) where
   abbrev w : Sheet
   w = listSheet m n vs
 
   abbrev size : ℕ
   size = 2 ^ n - 1
 
-  pub listed-worth : (i s : ℕ) → i < m → s < 2 ^ n → worth w i s ≡ listed n vs i s
-  listed-worth = table-there m n (listed n vs) few low
+  pub listed-worth : m ≤ 6 → n ≤ 4 → (i s : ℕ) → i < m → s < 2 ^ n → worth w i s ≡ listed n vs i s
+  listed-worth = table-there m n (listed n vs)
 
   -- the code's size of a line, in numbers and in bytes
-  module _ (z wide : ℕ) (ez : z ≡ size) (ew : wide ≡ lineLength n) where
+  module _ (known : Fills m n vs) (z wide : ℕ) (ez : z ≡ size) (ew : wide ≡ lineLength n) where
     pub lines-within : (i o : ℕ) → lineLength n * m ≤ o → i < m → wide * i + wide ≤ o
     lines-within i o room h =
         omega (arith, ap (λ x. x * m) ew, mul-suc wide i, mul-le-mul-left {m = suc i} {n = m} wide h)
 
     -- line i of the list
-    module _ (right : length vs ≡ m * size) (i : ℕ) (h : i < m) where
+    module _ (i : ℕ) (h : i < m) where
       pub row-within : z * i + z ≤ length vs
       row-within =
-          omega (arith, right, ap (λ x. m * x) ez, mul-comm z i, suc-mul i z, mul-le-mul-right {m = suc i} {n = m} z h)
+          omega (
+            arith,
+            known .right,
+            ap (λ x. m * x) ez,
+            mul-comm z i,
+            suc-mul i z,
+            mul-le-mul-right {m = suc i} {n = m} z h,
+          )
 
       abbrev part : List ℕ
       part = take (z * i + z - z * i) (drop (z * i) vs)
@@ -53,20 +61,21 @@ module _ (m n : ℕ) (vs : List ℕ) (few : m ≤ 6) (low : n ≤ 4) where
 
       pub row-is : part ≡ lineWorths w i
       row-is =
+          let there = listed-worth (known .few-buyers) (known .few-lots) in
           ext-getD 0 part (lineWorths w i) (row-length ∙ ez ∙ sym (tabulate-length size 1 (worth w i))) (λ c g.
           let short : c < z = omega (arith, row-length) in
           let less : c < size = omega (arith, ez) in
           let place : z * i + c ≡ i * size + c = omega (arith, mul-comm z i, ap (λ x. i * x) ez) in
           let next : 1 + c ≡ suc c = omega arith in
           getD-take (z * i + z - z * i) (drop (z * i) vs) c 0 (omega arith) ∙ getD-drop (z * i) vs c 0
-          ∙ ap (λ k. getD vs k 0) place ∙ sym (listed-worth i (suc c) h (omega (arith, pow-some n)))
+          ∙ ap (λ k. getD vs k 0) place ∙ sym (there i (suc c) h (omega (arith, pow-some n)))
           ∙ ap (worth w i) (sym next) ∙ sym (tabulate-at size 1 (worth w i) c 0 less))
 
-      pub row-small : (c : ℕ) → ((k : ℕ) → getD vs k 0 < c) → (k : ℕ) → getD part k 0 < c
-      row-small c small k =
+      pub row-small : (k : ℕ) → getD part k 0 < 1000000
+      row-small k =
           elim (decLt k z) [
             | yes g ↦
                 rw (getD-take (z * i + z - z * i) (drop (z * i) vs) k 0 (omega arith), getD-drop (z * i) vs k 0)
-                (small (z * i + k))
-            | no g ↦ rw (List·getD-eq-default part 0 {n = k} (omega (arith, row-length))) (omega (arith, small 0))
+                (known .small (z * i + k))
+            | no g ↦ rw (List·getD-eq-default part 0 {n = k} (omega (arith, row-length))) (omega arith)
           ]

@@ -90,7 +90,8 @@ module _ (w : Sheet) where
   order-length : length (inOrder w) ≡ count
   order-length = tabulate-length count 0 at
 
-  order-listed : (i c : ℕ) → i < w .buyers → suc c < 2 ^ w .lots → listed (w .lots) (inOrder w) i (suc c) ≡ worth w i (suc c)
+  order-listed : (i c : ℕ) → i < w .buyers → suc c < 2 ^ w .lots →
+      listed (w .lots) (inOrder w) i (suc c) ≡ worth w i (suc c)
   order-listed i c h g =
       let some : 1 ≤ size = omega arith in
       let less : c < size = omega arith in
@@ -121,9 +122,10 @@ in-order m n vs few low right =
 bytes-same : (w u : Sheet) → w .buyers ≡ u .buyers → w .lots ≡ u .lots →
     ((i c : ℕ) → i < u .buyers → suc c < 2 ^ u .lots → worth w i (suc c) ≡ worth u i (suc c)) → bytesOf w ≡ bytesOf u
 bytes-same w u em en same =
-    let rows : tabulate (u .buyers) 0 (λ i. tabulate (2 ^ u .lots - 1) 1 (worth w i)) ≡ tabulate (u .buyers) 0 (lineWorths u) =
-    tabulate-same (u .buyers) 0 (λ i. tabulate (2 ^ u .lots - 1) 1 (worth w i)) (lineWorths u) (λ i r.
-    tabulate-same (2 ^ u .lots - 1) 1 (worth w i) (worth u i) (λ s q.
+    let k = 2 ^ u .lots - 1 in
+    let rows : tabulate (u .buyers) 0 (λ i. tabulate k 1 (worth w i)) ≡ tabulate (u .buyers) 0 (lineWorths u) =
+    tabulate-same (u .buyers) 0 (λ i. tabulate k 1 (worth w i)) (lineWorths u) (λ i r.
+    tabulate-same k 1 (worth w i) (worth u i) (λ s q.
     let next : suc (s - 1) ≡ s = omega arith in
     rw next at (same i (s - 1) (omega arith) (omega arith)))) in
     rw (em, en) (ap (λ ls. linesOf ((u .buyers ∷ u .lots ∷ []) ∷ ls)) rows)
@@ -227,7 +229,9 @@ module _ (m n : ℕ) (vs : List ℕ) (room : ℕ) (buyers : (1 ≤ m) × (m ≤ 
           first-no bytes 7 (omega arith) .1
           (before-large, λ q. there (small-list m n vs (buyers .1) (lots .1) right (of-table 7 q)))
       same (suc (suc (suc (suc zero)))) l before there =
-          first-no bytes 8 (omega arith) .1
-          (before-falls (before 3 (omega arith)), λ q. there (grow-list m n vs (buyers .1) (lots .1) right (of-table 8 q)))
+          first-no bytes 8 (omega arith) .1 (
+            before-falls (before 3 (omega arith)),
+            λ q. there (grow-list m n vs (buyers .1) (lots .1) right (of-table 8 q)),
+          )
       same (suc (suc (suc (suc (suc zero))))) l before there = absurd (there (omega (arith, sheet-length m n vs)))
       same (suc (suc (suc (suc (suc (suc j)))))) l before there = absurd (omega arith)

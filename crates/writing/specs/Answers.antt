@@ -1,5 +1,5 @@
--- What writing a sheet answers and leaves in the buffer, refused or not (`WriteSays`), and what is printed of numbers in
--- fields (`sheetText`).
+-- What writing a sheet answers and leaves in the buffer, refused or not (`WriteSays`), and what is printed of numbers
+-- in fields (`sheetText`).
 use mathlib.Core.Path.{_≡_}
 use mathlib.Core.Bool.{Bool}
 use mathlib.Core.List.{List, [], _∷_}

@@ -1,13 +1,12 @@
 // Writes a lot sheet from a list of numbers in the sheet's order.
 ghost use mathlib.Core.Path.{_≡_};
-ghost use Prim.Native.Nat.{ℕ, min, _+_, _-_, _*_, _/_, _^_, _≤_, _<_};
-ghost use lib.ListN.{length, getD};
-ghost use Rattle.theory.specs.Lists.{tabulate, over};
+ghost use Prim.Native.Nat.{min, _+_, _-_, _*_, _/_, _^_, _≤_, _<_};
+ghost use lib.ListN.{length};
+ghost use Rattle.theory.specs.Lists.{over};
 ghost use Rattle.numbers.specs.Numbers.{Is};
-ghost use Rattle.fields.specs.Fields.{linesOf};
-ghost use Rattle.sheet.specs.Sheets.{lineWorths, lineLength};
+ghost use Rattle.sheet.specs.Sheets.{lineLength};
 ghost use Rattle.sheet.specs.Tables.{cellAt, cells};
-ghost use Rattle.writing.specs.Lists.{listed, listSheet, sheetBytes};
+ghost use Rattle.writing.specs.Lists.{listed, Fills, rowBytes, sheetBytes};
 ghost use Rattle.writing.specs.Answers.{writeFault, WriteSays, typed, firstTyped, sheetTextOf};
 ghost use Rattle.writing.specs.Claims.{Writes};
 use fields::Field;
@@ -97,8 +96,8 @@ fn ask_list(buyers: u32, lots: u32, worths: &[u32], room: usize) -> u8
 
 // The lines of worths, at the front of a buffer.
 fn put_rows(out: &mut [u8], worths: &[u32], m: usize, n: usize)
-    requires { ⌜ (m ≤ 6) × (n ≤ 4) × (length (now worths) ≡ m * (2 ^ n - 1)) × (lineLength n * m ≤ length (now out)) × ((k : ℕ) → getD (now worths) k 0 < 1000000) ⌝ }
-    ensures { λ _. ⌜ now (out .exit) ≡ over (linesOf (tabulate m 0 (lineWorths (listSheet m n (now (worths .entry)))))) (now (out .entry)) ⌝ }
+    requires { ⌜ Fills m n (now worths) × (lineLength n * m ≤ length (now out)) ⌝ }
+    ensures { λ _. ⌜ now (out .exit) ≡ over (rowBytes m n (now (worths .entry))) (now (out .entry)) ⌝ }
 {
     let size = bundles(n) - 1;
     let wide = line_length(n);
@@ -114,7 +113,7 @@ fn put_rows(out: &mut [u8], worths: &[u32], m: usize, n: usize)
 
 // The sheet, at the front of a buffer.
 fn put_sheet(out: &mut [u8], worths: &[u32], m: usize, n: usize)
-    requires { ⌜ (m ≤ 6) × (n ≤ 4) × (length (now worths) ≡ m * (2 ^ n - 1)) × (13 + m * lineLength n ≤ length (now out)) × ((k : ℕ) → getD (now worths) k 0 < 1000000) ⌝ }
+    requires { ⌜ Fills m n (now worths) × (13 + m * lineLength n ≤ length (now out)) ⌝ }
     ensures { λ _. ⌜ now (out .exit) ≡ over (sheetBytes m n (now (worths .entry))) (now (out .entry)) ⌝ }
 {
     let head = [m as u32, n as u32];

@@ -11,7 +11,7 @@ use Rattle.numbers.proofs.Numbers.{pow-some, product-small}
 use Rattle.printing.proofs.Lines.{lines-long, lines-more}
 use Rattle.sheet.specs.Sheets.{lineLength, lineWorths}
 use Rattle.sheet.proofs.Writing.{row-long}
-use Rattle.writing.specs.Lists.{listSheet}
+use Rattle.writing.specs.Lists.{listSheet, Fills}
 use Rattle.writing.proofs.Rows.{lines-within, row-within, row-fits, row-is, row-small}
 use Rattle.writing.proofs.put_rows.Statement.{statement}
 use Rattle.writing.proofs.put_rows.Tie as tie
@@ -24,13 +24,13 @@ abbrev μ-loop : tie.MeasureT-loop
 μ-loop out₀ worths m n size wide i₀ out i = m - i
 
 bundles-requires : tie.Need-bundles-requires Inv-loop μ-loop
-bundles-requires c κs = c .before .before .pre .1
+bundles-requires c κs = c .before .before .pre .0 .few-lots
 
 sub-size : tie.Need-sub-size Inv-loop μ-loop
 sub-size c = omega (arith, c .bundles .ensures .is, pow-some (c .before .before .before .args .n))
 
 line-length-requires : tie.Need-line-length-requires Inv-loop μ-loop
-line-length-requires c κs = c .before .before .before .pre .1
+line-length-requires c κs = c .before .before .before .pre .0 .few-lots
 
 loop-holds : tie.Need-loop-holds Inv-loop μ-loop
 loop-holds c = (omega arith, refl)
@@ -39,6 +39,9 @@ loop-holds c = (omega arith, refl)
 module _ (a : tie.At-loop Inv-loop μ-loop) where
   abbrev start : tie.Start Inv-loop μ-loop
   start = a .before .before .before .before .before
+
+  fills : Fills (start .args .m) (start .args .n) (start .args .worths .now)
+  fills = start .pre .0
 
   abbrev m : ℕ
   m = start .args .m
@@ -71,7 +74,7 @@ module _ (a : tie.At-loop Inv-loop μ-loop) where
   long =
       lines-long (lineWorths (listSheet m n vs)) (lineLength n) (row-long (listSheet m n vs)) o i (a .loop .out)
       (a .loop .inv .1)
-      (omega (arith, start .pre .3, mul-le-mul-left {m = i} {n = m} (lineLength n) (a .loop .inv .0)))
+      (omega (arith, start .pre .1, mul-le-mul-left {m = i} {n = m} (lineLength n) (a .loop .inv .0)))
 
 -- in a turn
 module _ (t : tie.In-loop Inv-loop μ-loop) where
@@ -80,13 +83,13 @@ module _ (t : tie.In-loop Inv-loop μ-loop) where
 
   room : wide at * i at + wide at ≤ length (o at)
   room =
-      lines-within (m at) (n at) (vs at) (start at .pre .0) (start at .pre .1) (size at) (wide at) (size-is at)
-      (wide-is at) (i at) (length (o at)) (start at .pre .3) (t .loop-test .taken)
+      lines-within (m at) (n at) (vs at) (fills at) (size at) (wide at) (size-is at) (wide-is at) (i at) (length (o at))
+      (start at .pre .1) (t .loop-test .taken)
 
   inside : size at * i at + size at ≤ length (vs at)
   inside =
-      row-within (m at) (n at) (vs at) (start at .pre .0) (start at .pre .1) (size at) (wide at) (size-is at)
-      (wide-is at) (start at .pre .2) (i at) (t .loop-test .taken)
+      row-within (m at) (n at) (vs at) (fills at) (size at) (wide at) (size-is at) (wide-is at) (i at)
+      (t .loop-test .taken)
 
 mul-at : tie.Need-mul-at Inv-loop μ-loop
 mul-at c = omega (arith, room c)
@@ -122,11 +125,10 @@ put-line-requires : tie.Need-put-line-requires Inv-loop μ-loop
 put-line-requires c κs =
     let t = c .before .before in
     let a = t .before in
-    let s = start a in (
-      row-fits (m a) (n a) (vs a) (s .pre .0) (s .pre .1) (size a) (wide a) (size-is a) (wide-is a) (s .pre .2) (i a)
-          (t .loop-test .taken) (a .loop .out) (omega (arith, long a, room t)),
-      row-small (m a) (n a) (vs a) (s .pre .0) (s .pre .1) (size a) (wide a) (size-is a) (wide-is a) (s .pre .2) (i a)
-          (t .loop-test .taken) 1000000 (s .pre .4),
+    let more = t .loop-test .taken in (
+      row-fits (m a) (n a) (vs a) (fills a) (size a) (wide a) (size-is a) (wide-is a) (i a) more (a .loop .out)
+          (omega (arith, long a, room t)),
+      row-small (m a) (n a) (vs a) (fills a) (size a) (wide a) (size-is a) (wide-is a) (i a) more,
     )
 
 add-i : tie.Need-add-i Inv-loop μ-loop
@@ -140,13 +142,11 @@ loop-again c =
     let put = c .before .before in
     let t = put .before .before .before in
     let a = t .before in
-    let s = start a in (
+    let w = listSheet (m a) (n a) (vs a) in (
       omega arith,
-      lines-more (lineWorths (listSheet (m a) (n a) (vs a))) (lineLength (n a)) (row-long (listSheet (m a) (n a) (vs a)))
-          (o a) (i a) (a .loop .out) (a .loop .inv .1) (omega (arith, wide-is a, ap (λ x. x * i a) (wide-is a), room t))
-          _ (ap (λ x. x * i a) (wide-is a)) _ _
-          (row-is (m a) (n a) (vs a) (s .pre .0) (s .pre .1) (size a) (wide a) (size-is a) (wide-is a) (s .pre .2) (i a)
-          (t .loop-test .taken))
+      lines-more (lineWorths w) (lineLength (n a)) (row-long w) (o a) (i a) (a .loop .out) (a .loop .inv .1)
+          (omega (arith, wide-is a, ap (λ x. x * i a) (wide-is a), room t)) _ (ap (λ x. x * i a) (wide-is a)) _ _
+          (row-is (m a) (n a) (vs a) (fills a) (size a) (wide a) (size-is a) (wide-is a) (i a) (t .loop-test .taken))
           (put .put-line .ensures),
     )
 

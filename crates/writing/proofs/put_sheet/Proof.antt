@@ -34,7 +34,7 @@ module _ (p : tie.After-put-line) where
   o = start .args .out .now
 
   long : length (p .put-line .last .0) ≡ length o
-  long = first-long m n vs o (p .put-line .last .0) [] (start .pre .3) (p .put-line .ensures)
+  long = first-long m n vs o (p .put-line .last .0) [] (start .pre .1) (p .put-line .ensures)
 
 cast-t6 : tie.Need-cast-t6
 cast-t6 c = search needs
@@ -48,15 +48,15 @@ slice-aggregate-put-line c = search needs
 put-line-requires : tie.Need-put-line-requires
 put-line-requires c κs =
     let s = c .before .before .before .before in (
-      omega (arith, s .pre .3),
-      two-small 1000000 _ _ (omega (arith, s .pre .0)) (omega (arith, s .pre .1)),
+      omega (arith, s .pre .1),
+      two-small 1000000 _ _ (omega (arith, s .pre .0 .few-buyers)) (omega (arith, s .pre .0 .few-lots)),
     )
 
 sub-put-rows : tie.Need-sub-put-rows
-sub-put-rows c = let p = c .before .before in omega (arith, long p, start p .pre .3)
+sub-put-rows c = let p = c .before .before in omega (arith, long p, start p .pre .1)
 
 part-put-rows-start : tie.Need-part-put-rows-start
-part-put-rows-start c = let p = c .before .before in omega (arith, long p, start p .pre .3)
+part-put-rows-start c = let p = c .before .before in omega (arith, long p, start p .pre .1)
 
 part-put-rows-end : tie.Need-part-put-rows-end
 part-put-rows-end c = omega arith
@@ -66,10 +66,7 @@ put-rows-requires c κs =
     let p = c .before .before .before in
     let s = start p in (
       s .pre .0,
-      s .pre .1,
-      s .pre .2,
-      simp (length-take, length-drop) (omega (arith, long p, s .pre .3, mul-comm (m p) (lineLength (n p)))),
-      s .pre .4,
+      simp (length-take, length-drop) (omega (arith, long p, s .pre .1, mul-comm (m p) (lineLength (n p)))),
     )
 
 -- once the lines of worths are written
@@ -78,7 +75,7 @@ whole : (q : tie.After-put-rows) → let p = q .before .before .before .before i
     ≡ over (sheetBytes (m p) (n p) (vs p)) (o p)
 whole q =
     let p = q .before .before .before .before in
-    parts-written (m p) (n p) (vs p) (o p) (p .put-line .last .0) (q .put-rows .last .0) (start p .pre .3)
+    parts-written (m p) (n p) (vs p) (o p) (p .put-line .last .0) (q .put-rows .last .0) (start p .pre .1)
     (p .put-line .ensures) (q .put-rows .ensures)
 
 same-length : tie.Need-same-length
@@ -87,7 +84,7 @@ same-length c =
     let p = q .before .before .before .before in
     ap length (whole q)
     ∙ over-long (sheetBytes (m p) (n p) (vs p)) (o p)
-    (omega (arith, sheet-length (m p) (n p) (vs p), start p .pre .3))
+    (omega (arith, sheet-length (m p) (n p) (vs p), start p .pre .1))
 
 returns : tie.Need-returns
 returns c = whole (c .before .before)

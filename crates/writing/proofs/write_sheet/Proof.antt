@@ -54,8 +54,15 @@ returns c =
 
 put-sheet-requires : tie.Need-put-sheet-requires
 put-sheet-requires c κs =
-    let p = c .before in
-    (yes-to p 0 .1, yes-to p 1 .1, yes-to p 2, yes-to p 5, λ k. omega (arith, yes-to p 3 k))
+    let p = c .before in (
+      record {
+        few-buyers = yes-to p 0 .1;
+        few-lots = yes-to p 1 .1;
+        right = yes-to p 2;
+        small = λ k. omega (arith, yes-to p 3 k);
+      },
+      yes-to p 5,
+    )
 
 line-length-requires : tie.Need-line-length-requires
 line-length-requires c κs = yes-to (c .before .before .before .before) 1 .1
