@@ -1,6 +1,6 @@
 -- Writing a sheet: what `write_sheet` answers, refused or not (`write-claim`), that an accepted sheet is written again
 -- as it is (`rewrites`), and what is printed of numbers (`typed-text`, `untyped`). Assumes nothing.
-use mathlib.Core.Path.{_≡_, refl, sym, ap, ap₂, subst, _∙_}
+use mathlib.Core.Path.{_≡_, refl, sym, ap, subst, _∙_}
 use mathlib.Core.Logic.{_≢_, _↔_, inl, inr}
 use mathlib.Core.List.{List, [], _∷_, _++_}
 use Prim.Native.Nat.{ℕ, zero, suc, _+_, _-_, _*_, _^_, _≤_, _<_}
@@ -22,7 +22,7 @@ use Rattle.writing.proofs.Rows.{listed-worth}
 use Rattle.writing.proofs.Questions.{small-list, write-first-no, write-all-yes, write-numbers, write-range}
 use Rattle.writing.proofs.Answers.{sheet-length, told-number, told-place, told-refused, told-written}
 use Rattle.writing.proofs.Texts.{typed-fields, text-says, text-fields}
-use Rattle.claim.specs.Claim.{Has, Between, Buyer, Accepted, line, listed, Whole, Small, Growing, Unwritten}
+use Rattle.claim.specs.Claim.{Between, Accepted, line, listed, Whole, Growing, Unwritten}
 use Rattle.claim.specs.Claim.Unwritten.{bad-buyers, bad-lots, bad-count, too-large, falling, no-room}
 use Rattle.claim.specs.Claim.{WriteClaim}
 use Rattle.claim.proofs.Numbers.{has-means}

@@ -1,19 +1,18 @@
 -- The fault of a sheet, by the question that gets the first "no": which question that is (`first-no`, `all-yes`), and
 -- "yes" to those before one (`before-none`, `before-more`); what questions 6, 7 and 8 ask place by place
 -- (`malformed-none`, `large-none`, `falls-none`). Assumes nothing.
-use mathlib.Core.Path.{_≡_, refl, sym, ap, subst, _∙_}
-use mathlib.Core.Logic.{_↔_, _⊎_, inl, inr}
-use mathlib.Core.Bool.{Bool, true}
-use mathlib.Core.List.{List, [], _∷_}
-use Prim.Native.Nat.{ℕ, zero, suc, _+_, _-_, _*_, _^_, _≤_, _<_}
+use mathlib.Core.Path.{_≡_, refl, subst}
+use mathlib.Core.Logic.{_↔_}
+use mathlib.Core.List.{List}
+use Prim.Native.Nat.{ℕ, zero, suc, _+_, _-_, _*_, _≤_, _<_}
 use native.Mathlib.Omega.{arith}
-use native.Mathlib.Decide.{ℕ-discrete, decLe}
+use native.Mathlib.Decide.{ℕ-discrete}
 use lib.Dec.{leb}
 use lib.ListN.{length, drop, getD}
-use Rattle.theory.proofs.Tests.{by-test, fails, Means, means-via, and-means, eqb-means, leb-means}
-use Rattle.sheet.specs.Sheets.{lineLength, offset, Sheet, sheetOf, worth}
-use Rattle.sheet.specs.Questions.{headGood, between, rightLength, wrong, firstWrong, linesFault, sheetFault}
-use Rattle.sheet.specs.Claims.{GoodField, questions, Question, Malformed, TooLarge, Falls, Grows}
+use Rattle.theory.proofs.Tests.{Means, means-via, and-means, eqb-means, leb-means}
+use Rattle.sheet.specs.Sheets.{lineLength, Sheet, sheetOf, worth}
+use Rattle.sheet.specs.Questions.{headGood, between, rightLength, firstWrong, linesFault, sheetFault}
+use Rattle.sheet.specs.Claims.{GoodField, questions, Question, Malformed, TooLarge, Falls}
 use Rattle.sheet.proofs.Lines.{good-means}
 use Rattle.sheet.proofs.Valued.{empty-worth}
 use Rattle.sheet.proofs.Nowhere.{Nowhere, malformed-nowhere, large-nowhere, falls-nowhere}

@@ -1,13 +1,13 @@
 -- What `write_sheet` answers and leaves in the buffer: a refusal (`says-refused`), or a sheet that is written
 -- (`says-written`), in two parts (`parts-written`); and what an answer of either kind tells (`told-refused`,
 -- `told-written`). Assumes nothing.
-use mathlib.Core.Path.{_≡_, refl, sym, ap, _∙_}
+use mathlib.Core.Path.{_≡_, sym, ap, _∙_}
 use mathlib.Core.Logic.{_≢_}
 use mathlib.Core.List.{List, [], _∷_}
-use Prim.Native.Nat.{ℕ, zero, suc, _+_, _-_, _*_, _≤_, _<_}
+use Prim.Native.Nat.{ℕ, _+_, _-_, _*_, _≤_}
 use native.Mathlib.Nat.{mul-comm}
 use native.Mathlib.Omega.{arith}
-use lib.ListN.{length, take, drop, getD}
+use lib.ListN.{length, take, drop}
 use borrow.Author.Tests.{eq-eqb, ne-eqb}
 use borrow.Rule.Slice.PartMut.{putMid}
 use Rattle.theory.specs.Sums.{pick, when}
@@ -20,7 +20,7 @@ use Rattle.sheet.specs.Sheets.{lineLength, lineWorths}
 use Rattle.sheet.proofs.Writing.{bytes-written, row-long}
 use Rattle.writing.specs.declared.Wrote.{Wrote}
 use Rattle.writing.specs.Lists.{listSheet, rowBytes, sheetBytes}
-use Rattle.writing.specs.Answers.{writeFault, writeAnswer, writtenOver, WriteSays}
+use Rattle.writing.specs.Answers.{writeFault, WriteSays}
 use Rattle.writing.proofs.Questions.{write-place}
 
 pub sheet-length : (m n : ℕ) (vs : List ℕ) → length (sheetBytes m n vs) ≡ 13 + m * lineLength n

@@ -1,13 +1,13 @@
 -- `writing::put_rows` meets its contract. The invariant: the first i lines are written.
 use mathlib.Core.List.{List}
-use mathlib.Core.Path.{_≡_, refl, sym, ap, _∙_}
-use Prim.Native.Nat.{ℕ, _+_, _-_, _*_, _^_, _≤_, _<_}
+use mathlib.Core.Path.{_≡_, refl, ap, _∙_}
+use Prim.Native.Nat.{ℕ, _+_, _-_, _*_, _^_, _≤_}
 use native.Mathlib.Nat.{mul-le-mul-left}
 use native.Mathlib.Omega.{arith}
-use lib.ListN.{length, length-take, length-drop}
+use lib.ListN.{length}
 use Rattle.theory.specs.Lists.{tabulate, over}
 use Rattle.fields.specs.Fields.{linesOf}
-use Rattle.numbers.proofs.Numbers.{pow-some, product-small}
+use Rattle.numbers.proofs.Numbers.{pow-some}
 use Rattle.printing.proofs.Lines.{lines-long, lines-more}
 use Rattle.sheet.specs.Sheets.{lineLength, lineWorths}
 use Rattle.sheet.proofs.Writing.{row-long}

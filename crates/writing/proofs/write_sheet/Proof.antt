@@ -1,13 +1,12 @@
 -- `writing::write_sheet` meets its contract.
 use mathlib.Core.List.{List}
 use mathlib.Core.Path.{_≡_, sym, ap, _∙_}
-use Prim.Native.Nat.{ℕ, _+_, _*_, _≤_, _<_}
+use Prim.Native.Nat.{ℕ, _+_, _*_, _≤_}
 use native.Mathlib.Omega.{arith}
 use borrow.Author.Needs.{needs}
-use lib.ListN.{length, getD}
+use lib.ListN.{length}
 use Rattle.theory.proofs.Over.{over-long}
 use Rattle.numbers.proofs.Numbers.{product-small}
-use Rattle.sheet.specs.Sheets.{lineLength}
 use Rattle.writing.specs.Lists.{sheetBytes}
 use Rattle.writing.specs.Answers.{writeFault}
 use Rattle.writing.specs.Claims.{ListQuestion}
