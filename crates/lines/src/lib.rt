@@ -4,6 +4,7 @@ ghost use mathlib.Core.List.{[]};
 ghost use Prim.Native.Nat.{_+_, _*_, _/_, _%_, _^_, _≤_, _<_};
 ghost use Rattle.numbers.specs.Numbers.{Is};
 ghost use Rattle.sheet.specs.Sheets.{lineLength, offset, asSheet, worthPlace, worthsIn};
+ghost use Rattle.sheet.specs.Tables.{hasWorth};
 ghost use Rattle.sheet.specs.Questions.{fault, askEach, malformed, tooLarge, grows, falls, wrong, firstWrong, linesFault};
 use numbers::has;
 use numbers::power;
@@ -33,23 +34,30 @@ fn offset_of(lots: usize, i: usize, c: usize) -> usize
     13 + (i * line_length(lots) + 6 * c)
 }
 
+// Whether a place of the ninety-six has a worth: buyer and bundle are there, and the bundle is not the empty one.
+pub fn has_worth(m: usize, n: usize, k: usize) -> bool
+    requires { ⌜ n ≤ 4 ⌝ }
+    ensures { λ r. ⌜ r ≡ hasWorth m n k ⌝ }
+{
+    let s = k % 16;
+    if s == 0 {
+        return false;
+    }
+    if m <= k / 16 {
+        return false;
+    }
+    s < bundles(n)
+}
+
 // The worth at a place of the ninety-six.
 fn worth_place(sheet: &[u8], m: usize, n: usize, k: usize) -> u32
     requires { ⌜ (m ≤ 6) × (n ≤ 4) × (k < 96) ⌝ }
     ensures { λ r. ⌜ r ≡ worthPlace m n (now (sheet .entry)) (k / 16) (k % 16) ⌝ }
 {
-    let i = k / 16;
-    let s = k % 16;
-    if s == 0 {
+    if !has_worth(m, n, k) {
         return 0;
     }
-    if m <= i {
-        return 0;
-    }
-    if bundles(n) <= s {
-        return 0;
-    }
-    fields::field_number(sheet, offset_of(n, i, s - 1))
+    fields::field_number(sheet, offset_of(n, k / 16, k % 16 - 1))
 }
 
 // The numbers that stand for worths, faults as 0.

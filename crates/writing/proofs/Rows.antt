@@ -1,6 +1,6 @@
--- A list's numbers as the sheet that it fills has them (`listed-worth`), and line by line: where a line stands in the list
--- (`row-within`) and in the buffer (`lines-within`, `row-fits`), and what it has (`row-is`, `row-small`). Assumes a list
--- that `Fills` a sheet.
+-- A list's numbers as the sheet that it fills has them (`listed-worth`), and line by line: where a line stands in the
+-- list (`row-within`) and in the buffer (`lines-within`, `row-fits`), and what it has (`row-is`, `row-small`). Assumes
+-- a list that `Fills` a sheet.
 use mathlib.Core.Path.{_≡_, sym, ap, _∙_}
 use mathlib.Core.List.{List}
 use Prim.Native.Nat.{ℕ, suc, _+_, _-_, _*_, _^_, _≤_, _<_}

@@ -12,6 +12,7 @@ ghost use Rattle.writing.specs.Claims.{Writes};
 use fields::Field;
 use lines::ask_each;
 use lines::bundles;
+use lines::has_worth;
 use lines::line_length;
 use printing::put_line;
 use reading::is_between;
@@ -35,19 +36,10 @@ fn listed_place(worths: &[u32], m: usize, n: usize, k: usize) -> u32
     requires { ⌜ (m ≤ 6) × (n ≤ 4) × (k < 96) × (length (now worths) ≡ m * (2 ^ n - 1)) ⌝ }
     ensures { λ r. ⌜ r ≡ cellAt m n (listed n (now (worths .entry))) k ⌝ }
 {
-    let i = k / 16;
-    let s = k % 16;
-    if s == 0 {
+    if !has_worth(m, n, k) {
         return 0;
     }
-    if m <= i {
-        return 0;
-    }
-    let size = bundles(n);
-    if size <= s {
-        return 0;
-    }
-    let at = i * (size - 1) + (s - 1);
+    let at = (k / 16) * (bundles(n) - 1) + (k % 16 - 1);
     worths[at]
 }
 
