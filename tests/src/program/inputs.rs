@@ -28,7 +28,7 @@ const ALPHABET: &[u8] = b" 0123456789\n";
 const SIZES: [usize; 11] = [0, 1, 2, 3, 4, 5, 6, 7, 10, 65_537, 999_999];
 
 /// Fields that are not a number.
-const BAD_FIELDS: [[u8; FIELD]; 6] = [
+pub const BAD_FIELDS: [[u8; FIELD]; 6] = [
     *b"    03",
     *b"      ",
     *b"3     ",

@@ -3,12 +3,14 @@
 use std::process::Command;
 
 use super::inputs::{KINDS, LONGEST};
-use super::lists::{self, List};
+use super::lists::{handed_on, print_list};
 use super::{program_path, SALE, WRITE};
 use crate::generator::{bytes_of, Generator};
 use crate::process::run;
 use crate::reckoning::print::print_sale;
+use crate::reckoning::writing::List;
 use crate::tally::Tally;
+use crate::writing::random::changed;
 
 /// Buyers and lots of settled sheets: the least and the most of each, and one between.
 const SIZES: [(usize, usize); 5] = [(1, 1), (1, 4), (6, 1), (6, 4), (3, 2)];
@@ -37,7 +39,7 @@ pub fn compare(tally: &mut Tally, generator: &mut Generator) {
             write(tally, &List::of(&sheet));
         }
         for _ in 0..DRAWN {
-            write(tally, &lists::draw(generator));
+            write(tally, &changed(generator));
         }
     });
 }
@@ -47,7 +49,7 @@ fn print(tally: &mut Tally, input: &[u8]) {
 }
 
 fn write(tally: &mut Tally, list: &List) {
-    compare_program(tally, WRITE, &list.handed_on(), &list.print());
+    compare_program(tally, WRITE, &handed_on(list), &print_list(list));
 }
 
 fn compare_program(tally: &mut Tally, name: &str, input: &[u8], output: &[u8]) {

@@ -1,12 +1,13 @@
 //! Inputs that come in small pieces, one after another, as a pipe may give them.
 
 use super::inputs::KINDS;
-use super::lists;
+use super::lists::{handed_on, print_list};
 use super::{program, SALE, WRITE};
 use crate::generator::Generator;
 use crate::process::run_in_pieces;
 use crate::reckoning::print::print_sale;
 use crate::tally::Tally;
+use crate::writing::random::changed;
 
 /// Inputs drawn of each kind.
 const DRAWN: usize = 5;
@@ -27,8 +28,8 @@ pub fn compare(tally: &mut Tally, generator: &mut Generator) {
             }
         }
         for most in [1, MOST].repeat(LISTS) {
-            let list = lists::draw(generator);
-            let (input, output) = (list.handed_on(), list.print());
+            let list = changed(generator);
+            let (input, output) = (handed_on(&list), print_list(&list));
             print(tally, generator, (WRITE, most), &input, &output);
         }
     });

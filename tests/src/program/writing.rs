@@ -1,5 +1,5 @@
 //! The command `hokewhuni write`: the words that it takes for numbers, what it hands to the program,
-//! what it prints and says, and its status.
+//! what it prints and says, and its status (rule 11.10).
 
 use std::ffi::OsStr;
 use std::fs;
@@ -12,11 +12,15 @@ use super::command::{
 };
 use super::examples::examples;
 use super::folder::{copy_executable, Folder};
-use super::lists::{self, List, EDGES, MOST_NUMBERS};
+use super::lists::{self, due, of_ones, print_list, MOST_NUMBERS};
 use super::{in_repository, told, WRITE};
 use crate::generator::Generator;
 use crate::process::run;
+use crate::reckoning::sheet::GREATEST_WORTH;
+use crate::reckoning::writing::{written_sheet, List};
 use crate::tally::{End, Tally};
+use crate::writing::random::changed;
+use crate::writing::TOO_HIGH;
 
 /// Lists drawn.
 const DRAWN: usize = 100;
@@ -52,7 +56,7 @@ const KNOWN: [(&str, &str); 24] = [
     ("1 1 010", "     1     1\n    10\n"),
     ("1 1 08", "     1     1\n     8\n"),
     ("1 1 0000009999", "     1     1\n  9999\n"),
-    // Each refusal, and each before the next.
+    // Each refusal, and each before the next (rule 11.3).
     ("0 1", "     3     0\n"),
     ("7 5", "     3     0\n"),
     ("08 1 1", "     3     0\n"),
@@ -147,7 +151,7 @@ pub fn compare(tally: &mut Tally, generator: &mut Generator) {
     });
     tally.group("lists to the command", |tally| {
         for _ in 0..DRAWN {
-            list(tally, &lists::draw(generator));
+            list(tally, &changed(generator));
         }
     });
 }
@@ -197,7 +201,7 @@ fn options(tally: &mut Tally) {
 
 /// A word that is not a number is none in any place, also after those that are handed on.
 fn not_numbers(tally: &mut Tally) {
-    let good = List::of_ones(6, 4, 2 * MOST_NUMBERS).words();
+    let good = lists::words(&of_ones(6, 4, 2 * MOST_NUMBERS));
     for word in NOT_NUMBERS {
         for at in [0, 1, 2, MOST_NUMBERS - 1, MOST_NUMBERS, good.len() - 1] {
             let mut list: Vec<&OsStr> = good.iter().map(OsStr::new).collect();
@@ -211,10 +215,15 @@ fn not_numbers(tally: &mut Tally) {
 
 /// Great numbers in each place of a list.
 fn places(tally: &mut Tally) {
-    for edge in EDGES {
+    let good = of_ones(1, 2, 3);
+    for number in TOO_HIGH.into_iter().chain([GREATEST_WORTH.into()]) {
         for at in 0..5 {
-            let mut great = List::of_ones(1, 2, 3);
-            great.numbers[at] = edge;
+            let mut great = good.clone();
+            match at {
+                0 => great.buyers = number,
+                1 => great.lots = number,
+                _ => great.worths[at - 2] = number,
+            }
             list(tally, &great);
         }
     }
@@ -223,18 +232,19 @@ fn places(tally: &mut Tally) {
 /// Every count of worths up to more than are handed on, and some that are far greater.
 fn counts(tally: &mut Tally) {
     for count in (0..=COUNTS).chain(MANY) {
-        list(tally, &List::of_ones(6, 4, count));
+        list(tally, &of_ones(6, 4, count));
     }
     for count in 0..10 {
-        list(tally, &List::of_ones(2, 2, count));
+        list(tally, &of_ones(2, 2, count));
     }
 }
 
 /// A list: what is printed, the status, and what `-v` says of the number.
 fn list(tally: &mut Tally, list: &List) {
-    let (print, words) = (list.print(), list.words());
+    let (print, words) = (print_list(list), lists::words(list));
     let mut end = printing(&print);
-    let said = list.sheet().err().map(|number| meaning(list, number));
+    let refusal = written_sheet(list).err();
+    let said = refusal.map(|refusal| meaning(list, refusal.number));
     if let Some(said) = &said {
         end.errors = said.as_bytes();
     }
@@ -248,9 +258,10 @@ fn meaning(list: &List, number: u8) -> String {
         return said(refused_by(number, WORDS[usize::from(number) - 1]));
     }
     let words = "the list has not m * (2^n - 1) worths, with m bidders and n lots";
-    let (buyers, lots, due) = (list.buyers(), list.lots(), list.due());
+    let (buyers, lots) = (list.buyers, list.lots);
+    let due = due(buyers, lots);
     let size = format!("; for m = {buyers} and n = {lots} that is {due}");
-    let count = format!(", and the list has {}", list.worths().len());
+    let count = format!(", and the list has {}", list.worths.len());
     said(refused_by(number, words) + &size + &count)
 }
 
@@ -306,15 +317,16 @@ fn with_program(folder: &Path, lines: &str) -> Result<PathBuf, String> {
 fn handed_on(tally: &mut Tally, generator: &mut Generator, folder: &Path) {
     let command = tally.succeeds("a program", with_program(folder, "echo handed on; cat"));
     let mut hand_on = |list: &List| {
-        let run = || run(Command::new(&command).arg("write").args(list.words()), b"");
-        let output = [b"handed on\n", &*list.handed_on()].concat();
+        let words = lists::words(list);
+        let run = || run(Command::new(&command).arg("write").args(&words), b"");
+        let output = [b"handed on\n", &*lists::handed_on(list)].concat();
         tally.process(format_args!("what is handed on of {list:?}"), run, &output);
     };
     for count in [0, 1, 90, 91, 92, 300] {
-        hand_on(&List::of_ones(6, 4, count));
+        hand_on(&of_ones(6, 4, count));
     }
     for _ in 0..DRAWN {
-        hand_on(&lists::draw(generator));
+        hand_on(&changed(generator));
     }
 }
 

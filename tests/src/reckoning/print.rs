@@ -1,6 +1,8 @@
 //! The printed sale. Written from the rules alone (docs/RULES.md), never from the Rattle code; the
 //! comments name the rules that are met.
 
+use std::fmt::Display;
+
 use super::sale::{run_sale, Sale};
 use super::sheet::{Refusal, GREATEST_WORTH, LINE_END, MOST_BUYERS};
 
@@ -40,13 +42,13 @@ fn settled(sale: &Sale) -> Vec<u8> {
     lines.concat()
 }
 
-/// The line of a refusal (rule 6.4).
-fn refused(refusal: &Refusal) -> Vec<u8> {
-    line(&[refusal.number.into(), refusal.place])
+/// The line of a refusal (rules 6.4 and 11.9).
+pub fn refused(refusal: &Refusal) -> Vec<u8> {
+    line(&[usize::from(refusal.number), refusal.place])
 }
 
-/// A line of fields of six columns (rule 6.2).
-fn line(numbers: &[usize]) -> Vec<u8> {
+/// A line of fields of six columns (rules 2.1, 2.2 and 6.2).
+pub fn line(numbers: &[impl Display]) -> Vec<u8> {
     let fields = numbers.iter().map(|number| format!("{number:>6}"));
     let mut line = fields.collect::<String>().into_bytes();
     line.push(LINE_END);

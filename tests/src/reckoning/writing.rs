@@ -2,13 +2,13 @@
 //! Written from the rules alone (docs/RULES.md), never from the Rattle code; the comments name the
 //! rules that are met.
 
+use super::print::line;
 use super::sheet::{
-    bundles, length, parts, refuse, Refusal, Sheet, GREATEST_WORTH, LINE_END, MOST_BUYERS,
-    MOST_LOTS,
+    bundles, length, parts, refuse, Refusal, Sheet, GREATEST_WORTH, MOST_BUYERS, MOST_LOTS,
 };
 
 /// What a sheet is written of: numbers of buyers and lots, and the worths as one list in the
-/// sheet's order (rule 2.7).
+/// sheet's order (rules 11.1 and 11.2).
 #[derive(Clone, Debug, PartialEq, Eq)]
 pub struct List {
     pub buyers: u32,
@@ -17,20 +17,33 @@ pub struct List {
 }
 
 impl List {
-    /// The worths of a sheet in order.
+    pub fn new(buyers: u32, lots: u32, worths: impl Into<Vec<u32>>) -> Self {
+        List {
+            buyers,
+            lots,
+            worths: worths.into(),
+        }
+    }
+
+    /// The worths of a sheet in order (rule 11.2).
     pub fn of(sheet: &Sheet) -> Self {
         let rows = sheet.worths[..sheet.buyers].iter();
         let worths = rows.flat_map(|row| &row[1..=bundles(sheet.lots)]);
-        List {
-            buyers: sheet.buyers as u32,
-            lots: sheet.lots as u32,
-            worths: worths.map(|&worth| worth.into()).collect(),
-        }
+        let worths: Vec<u32> = worths.map(|&worth| worth.into()).collect();
+        List::new(sheet.buyers as u32, sheet.lots as u32, worths)
     }
 }
 
-/// Writes the sheet to the front of a buffer, and answers its length. Later bytes of the buffer
-/// stay; after a no all of them do.
+/// The sheet, in a buffer that has room for every one (rule 11.9).
+pub fn written_sheet(list: &List) -> Result<Vec<u8>, Refusal> {
+    let mut out = vec![0; length(MOST_BUYERS, MOST_LOTS)];
+    let length = write_sheet(list, &mut out)?;
+    out.truncate(length);
+    Ok(out)
+}
+
+/// Writes the sheet to the front of a buffer, and answers its length (rule 11.5). Later bytes of
+/// the buffer stay; after a no all of them do. Question 11 is the last (rules 11.3 and 11.4).
 pub fn write_sheet(list: &List, out: &mut [u8]) -> Result<usize, Refusal> {
     let (buyers, lots) = size(list)?;
     ask_worths(&list.worths, buyers, lots)?;
@@ -42,7 +55,7 @@ pub fn write_sheet(list: &List, out: &mut [u8]) -> Result<usize, Refusal> {
     Ok(length)
 }
 
-/// Questions 3 and 4: the numbers of buyers and lots.
+/// Questions 3 and 4 (rule 11.4): the numbers of buyers and lots.
 fn size(list: &List) -> Result<(usize, usize), Refusal> {
     let (buyers, lots) = (list.buyers as usize, list.lots as usize);
     if !(1..=MOST_BUYERS).contains(&buyers) {
@@ -54,7 +67,8 @@ fn size(list: &List) -> Result<(usize, usize), Refusal> {
     Ok((buyers, lots))
 }
 
-/// Questions 5, 7 and 8. Each is put to all of the list before the next, and the place is 0.
+/// Questions 5, 7 and 8 (rule 11.4). Each is put to all of the list before the next, and the place
+/// is 0 (rule 11.3).
 fn ask_worths(worths: &[u32], buyers: usize, lots: usize) -> Result<(), Refusal> {
     let bundles = bundles(lots);
     if worths.len() != buyers * bundles {
@@ -70,8 +84,8 @@ fn ask_worths(worths: &[u32], buyers: usize, lots: usize) -> Result<(), Refusal>
     Ok(())
 }
 
-/// Whether a bundle of a buyer's is worth less than with one lot fewer. The first worth is that of
-/// bundle 1.
+/// Whether a bundle of a buyer's is worth less than with one lot fewer (rule 3.8). The first worth
+/// is that of bundle 1.
 fn falls(worths: &[u32]) -> bool {
     (1..=worths.len()).any(|bundle| {
         let mut parts = parts(bundle).filter(|&part| part != 0);
@@ -79,19 +93,11 @@ fn falls(worths: &[u32]) -> bool {
     })
 }
 
-/// The first line and a line for each buyer (rules 2.1, 2.6 and 2.7).
+/// The first line and a line for each buyer (rules 2.6 and 2.7).
 fn bytes(list: &List, bundles: usize) -> Vec<u8> {
     let mut bytes = line(&[list.buyers, list.lots]);
     for worths in list.worths.chunks(bundles) {
         bytes.extend(line(worths));
     }
     bytes
-}
-
-/// A line of fields (rule 2.2).
-fn line(numbers: &[u32]) -> Vec<u8> {
-    let fields = numbers.iter().map(|number| format!("{number:>6}"));
-    let mut line = fields.collect::<String>().into_bytes();
-    line.push(LINE_END);
-    line
 }

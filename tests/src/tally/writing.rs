@@ -6,9 +6,8 @@ use super::lent::{inside, lent_difference, within_margins};
 use super::sales::BEYOND;
 use super::{bare, difference, safe, text_difference, Tally};
 use crate::generator::bytes_of;
-use crate::reckoning::print::MOST_READ;
 use crate::reckoning::sheet::{refuse, Refusal, Sheet, MOST_BUYERS};
-use crate::reckoning::writing::{write_sheet, List};
+use crate::reckoning::writing::{write_sheet, written_sheet, List};
 
 /// What stands on either side of a list that is lent. These are no worths, so that it shows if they
 /// are read.
@@ -33,12 +32,9 @@ impl Tally {
 
     /// Compares the sheet of the crate's function that brings the buffer itself.
     pub fn own_buffer(&mut self, list: &List) {
-        let mut reckoned = vec![0; MOST_READ];
-        let expected = write_sheet(list, &mut reckoned).map(|length| &reckoned[..length]);
-        let expected = expected.map_err(|refusal| safe::write_refusal(&refusal));
+        let expected = written_sheet(list).map_err(|refusal| safe::write_refusal(&refusal));
         let (buyers, lots) = (list.buyers as usize, list.lots as usize);
         let answer = hokewhuni::written_sheet(buyers, lots, &list.worths);
-        let answer = answer.as_deref().map_err(|&refusal| refusal);
         let difference = difference("written_sheet", ("crate", &answer), ("Rust", &expected));
         self.count_list(list, difference.as_slice());
     }

@@ -1,4 +1,5 @@
-//! Buffers of every length, for sheets of every size and for lists that are refused.
+//! Buffers of every length, for sheets of every size and for lists that are refused. The bytes after
+//! a sheet stay as they were, and with a refusal all do (rule 11.5).
 
 use super::LONGEST;
 use crate::generator::{bytes_of, sizes, Generator};
@@ -33,19 +34,14 @@ pub fn compare(tally: &mut Tally, generator: &mut Generator) {
             }
         }
         for (buyers, lots, worths, number) in REFUSED {
-            let worths = Vec::from(worths);
-            let list = List {
-                buyers,
-                lots,
-                worths,
-            };
+            let list = List::new(buyers, lots, worths);
             every_length(tally, generator, &list, &Err(Refusal { number, place: 0 }));
         }
     });
 }
 
 /// Writes a list into buffers of every length; what would be written is known. Question 11 comes
-/// after all others.
+/// after all others (rules 11.3 and 11.4).
 fn every_length(
     tally: &mut Tally,
     generator: &mut Generator,

@@ -1,4 +1,5 @@
-//! The sheets of the rules, written from their worths, and lists with the refusals of the rules.
+//! The sheets of the rules (sections 6 and 7), written from their worths (rules 11.2 and 11.5), and
+//! lists with the refusals of rules 11.3 and 11.4.
 
 use crate::generator::Generator;
 use crate::reckoning::sheet::Refusal;
@@ -23,7 +24,7 @@ const REFUSED: [(u32, u32, &[u32], usize, u8); 22] = [
     (1, 1, &[10_000], LONGEST, 7),
     (1, 1, &[65_541], LONGEST, 7),
     (1, 1, &[u32::MAX], LONGEST, 7),
-    // Question 7 is put to all of the list before question 8 is.
+    // Question 7 is put to all of the list before question 8 is (rule 11.3).
     (2, 2, &[4, 0, 3, 0, 0, 10_000], LONGEST, 7),
     (1, 1, &[10_000], 0, 7),
     (2, 2, &[4, 0, 3, 0, 1, 3], LONGEST, 8),
@@ -45,12 +46,7 @@ pub fn compare(tally: &mut Tally, generator: &mut Generator) {
             tally.own_buffer(&list);
         }
         for (buyers, lots, worths, length, number) in REFUSED {
-            let worths = Vec::from(worths);
-            let list = List {
-                buyers,
-                lots,
-                worths,
-            };
+            let list = List::new(buyers, lots, worths);
             let known = Err(Refusal { number, place: 0 });
             tally.known_writing(&list, &generator.bytes(length), &known);
             tally.own_buffer(&list);

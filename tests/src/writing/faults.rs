@@ -1,6 +1,6 @@
 //! Lists with one fault and with two at all combinations of places, and with any number of them. A
-//! question is put to the whole list before the next one is: the answer is the lowest number among
-//! the faults, wherever they stand.
+//! question is put to the whole list before the next one is (rule 11.3): the answer is the lowest
+//! number among the faults, wherever they stand.
 
 use super::LONGEST;
 use crate::generator::{bytes_of, sizes, Generator};

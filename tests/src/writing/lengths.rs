@@ -1,5 +1,5 @@
 //! Lists of every length for sheets of every size, and of lengths that would be right if they were
-//! narrowed.
+//! narrowed (question 5, rule 11.4).
 
 use super::{refused, LONGEST};
 use crate::generator::{bytes_of, sizes, Generator};

@@ -1,5 +1,5 @@
 //! Question 8 of each bundle and each of its parts with one lot fewer, at every size and buyer: a
-//! bundle may be worth as much as the part, and not one less.
+//! bundle may be worth as much as the part, and not one less (rules 3.8 and 11.4).
 
 use super::{refused, LONGEST};
 use crate::generator::{bytes_of, sizes, Generator};

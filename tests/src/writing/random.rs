@@ -1,6 +1,6 @@
 //! Random lists: of any numbers, and of good sheets with something changed.
 
-use super::LONGEST;
+use super::{LONGEST, TOO_HIGH};
 use crate::generator::Generator;
 use crate::reckoning::sheet::{bundles, length};
 use crate::reckoning::writing::List;
@@ -11,6 +11,9 @@ const DRAWN: usize = 50_000;
 
 /// One in so many lists is written into the crate's own buffer too.
 const OWN: usize = 10;
+
+/// The greatest length that a list is given.
+const MOST: usize = 300;
 
 /// Bounds of random worths.
 const BOUNDS: [usize; 7] = [1, 3, 10_000, 10_001, 20_000, 70_000, 1 << 32];
@@ -69,28 +72,32 @@ fn worths(generator: &mut Generator, count: usize) -> Vec<u32> {
     (0..count).map(|_| generator.below(bound) as u32).collect()
 }
 
-/// The list of a good sheet, changed in up to two ways.
-fn changed(generator: &mut Generator) -> List {
+/// The list of a good sheet, changed in up to three ways.
+pub fn changed(generator: &mut Generator) -> List {
     let (buyers, lots) = generator.size();
     let mut list = List::of(&generator.monotone(buyers, lots));
-    for _ in 0..generator.below(3) {
+    for _ in 0..generator.below(4) {
         change(generator, &mut list);
     }
     list
 }
 
-/// Gives the list another worth or number of buyers or lots, takes a worth away or adds one, or
-/// changes two worths for each other.
+/// Gives the list another number of buyers or lots, takes a worth away or adds one, gives it any
+/// length or another worth, or changes two worths for each other.
 fn change(generator: &mut Generator, list: &mut List) {
     let count = list.worths.len();
-    match generator.below(6) {
-        0 => list.buyers = generator.below(8) as u32,
-        1 => list.lots = generator.below(6) as u32,
+    let size = generator.below(8) as u32;
+    let bound = generator.pick(&BOUNDS);
+    let number = generator.below(bound) as u32;
+    let high = generator.pick(&TOO_HIGH);
+    match generator.below(7) {
+        0 => list.buyers = generator.pick(&[size, size, high]),
+        1 => list.lots = generator.pick(&[size, size, high]),
         2 => list.worths.truncate(count.saturating_sub(1)),
-        3 => list.worths.push(generator.below(10_000) as u32),
-        4 if count > 0 => {
-            let bound = generator.pick(&BOUNDS);
-            list.worths[generator.below(count)] = generator.below(bound) as u32;
+        3 => list.worths.push(number),
+        4 => list.worths.resize(generator.below(MOST + 1), number),
+        5 if count > 0 => {
+            list.worths[generator.below(count)] = generator.pick(&[number, number, high]);
         }
         _ if count > 0 => {
             let (one, other) = (generator.below(count), generator.below(count));

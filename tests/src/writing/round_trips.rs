@@ -1,4 +1,5 @@
-//! Sheets of every size, written from their worths and read again, and read and written again.
+//! Sheets of every size, written from their worths and read again, and read and written again (rule
+//! 11.6).
 
 use crate::generator::{bytes_of, sizes, Generator};
 use crate::reckoning::sheet::{length, Sheet};

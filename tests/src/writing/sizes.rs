@@ -1,5 +1,5 @@
 //! Numbers of buyers and lots in range and out of it, in all pairs, each with lists of every length
-//! that a size asks for.
+//! that a size asks for. None is cut before questions 3 and 4 are put (rule 11.4).
 
 use std::collections::BTreeSet;
 
@@ -51,11 +51,7 @@ pub fn compare(tally: &mut Tally, generator: &mut Generator) {
                 for &length in &lengths {
                     // A worth of 10,000 too, which is asked about later.
                     for worth in [0, 10_000] {
-                        let list = List {
-                            buyers,
-                            lots,
-                            worths: vec![worth; length],
-                        };
+                        let list = List::new(buyers, lots, vec![worth; length]);
                         write(tally, generator, &list);
                     }
                 }

@@ -1,6 +1,7 @@
-//! Every worth by itself, and worths at the edges of question 7 at every place of a list.
+//! Every worth by itself, and worths at the edges of question 7 at every place of a list (rules 3.7
+//! and 11.4).
 
-use super::{refused, LONGEST};
+use super::{refused, LONGEST, TOO_HIGH};
 use crate::generator::{bytes_of, sizes, Generator};
 use crate::reckoning::sheet::{bundles, Sheet, Table, GREATEST_WORTH};
 use crate::reckoning::writing::List;
@@ -9,32 +10,10 @@ use crate::tally::Tally;
 /// Numbers of one list each, past those that 16 bits can have.
 const NUMBERS: u32 = 70_000;
 
-/// Above the greatest worth; some would be worths if they were narrowed to 16 bits, or cut to six
-/// or to four digits.
-const TOO_HIGH: [u32; 13] = [
-    10_000,
-    10_001,
-    32_768,
-    65_535,
-    65_536,
-    65_541,
-    75_535,
-    99_999,
-    1_000_000,
-    1 << 31,
-    (1 << 31) + 5,
-    u32::MAX - 65_530,
-    u32::MAX,
-];
-
 pub fn compare(tally: &mut Tally, generator: &mut Generator) {
     tally.group("writing every worth", |tally| {
         for number in 0..NUMBERS {
-            let list = List {
-                buyers: 1,
-                lots: 1,
-                worths: vec![number],
-            };
+            let list = List::new(1, 1, [number]);
             if number > u32::from(GREATEST_WORTH) {
                 refused(tally, generator, &list, 7);
                 continue;
