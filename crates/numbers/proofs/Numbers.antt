@@ -1,6 +1,6 @@
 -- Powers, products and remainders. Assumes nothing.
 use mathlib.Core.Path.{_≡_}
-use Prim.Native.Nat.{ℕ, _*_, _/_, _%_, _^_, _<_, _≤_}
+use Prim.Native.Nat.{ℕ, zero, suc, _*_, _/_, _%_, _^_, _<_, _≤_}
 use native.Mathlib.Nat.{one-mul, mod-eq-of-lt, mod-lt, pow-le-pow-right, mul-le-mul, div-lt-iff-lt-mul}
 use native.Mathlib.Omega.{arith}
 use lib.Dec.{lit<}
@@ -22,6 +22,11 @@ no-higher {n = n} e k h = record { is = e .is; most = rw (e .is) (pow-mono {i = 
 
 pub product-small : (i l a b : ℕ) → i ≤ a → l ≤ b → i * l ≤ a * b
 product-small i l a b h g = mul-le-mul h g
+
+-- what is below a product has a factor to be below
+pub factor-some : (k m z : ℕ) → k < m * z → 1 ≤ z
+factor-some k m zero h = absurd (omega arith)
+factor-some k m (suc z) h = omega arith
 
 -- place k of lines of z places each is on line k / z, at k % z
 pub line-below : (k m z : ℕ) → 1 ≤ z → k < m * z → k / z < m

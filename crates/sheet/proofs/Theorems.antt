@@ -30,7 +30,7 @@ use Rattle.sheet.proofs.Nowhere.{growing}
 use Rattle.sheet.proofs.Faults.{all-yes}
 
 module _ (P : Fault → Type 0) where
-  ask-cases : (k : ℕ) (x : Bool) (rest : Unit {0} → Fault) → P (fault k 0) → (x ≡ true → P (rest tt)) → P (ask k x rest)
+  pub ask-cases : (k : ℕ) (x : Bool) (rest : Unit {0} → Fault) → P (fault k 0) → (x ≡ true → P (rest tt)) → P (ask k x rest)
   ask-cases k x rest h f = by-test x (λ e. rw e (f e)) (λ e. rw e h)
 
   each-cases : (k n x : ℕ) (rest : Unit {0} → Fault) → ((j : ℕ) → x ≡ suc j → P (fault k (offset n (j / 2 ^ n) (j % 2 ^ n)))) → P (rest tt) → P (askEach k n x rest)

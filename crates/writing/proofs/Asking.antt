@@ -1,15 +1,17 @@
--- The questions of a list, in their order: one law for each way out of `ask_list`. Assumes nothing.
+-- The questions of a list, in their order: what each answer on the way through `ask_list` says of the list's fault.
+-- Assumes nothing.
 use mathlib.Core.Path.{_≡_, ap, _∙_}
 use mathlib.Core.Logic.{_≢_}
 use mathlib.Core.Bool.{true, false}
 use mathlib.Core.List.{List, []}
-use Prim.Native.Nat.{ℕ, _+_, _-_, _*_, _^_, _≤_, _<_}
+use Prim.Native.Nat.{ℕ, _+_, _-_, _*_, _^_}
 use lib.ListN.{length}
-use borrow.Author.Tests.{eq-eqb, ne-eqb, le-leb, lt-leb}
+use lib.Dec.{leb}
+use borrow.Author.Tests.{eq-eqb, ne-eqb}
 use Rattle.sheet.specs.declared.Fault.{Fault}
 use Rattle.sheet.specs.Sheets.{lineLength, Sheet, asSheet}
 use Rattle.sheet.specs.Tables.{cells}
-use Rattle.sheet.specs.Questions.{fault, between, firstWrong}
+use Rattle.sheet.specs.Questions.{fault, ask, between, firstWrong}
 use Rattle.lines.proofs.Asking.{askedAlone, passed-by}
 use Rattle.writing.specs.Lists.{listed, listSheet}
 use Rattle.writing.specs.Answers.{rightCount, noneWrong, writeFault}
@@ -67,11 +69,6 @@ module _ (m n : ℕ) (vs : List ℕ) (room : ℕ) where
               none-falls : noneWrong 8 w ≡ true
               none-falls = rw (← same 8) (eq-eqb (found 8) 0 (passed-by 7 n (found 8) g eg q8))
 
-              pub short-buffer : room < 13 + m * lineLength n → writeFault m n vs room ≡ fault 11 0
+              pub room-asked : writeFault m n vs room ≡ ask 11 (leb (13 + m * lineLength n) room) (λ _. fault 0 0)
               unfolding writeFault
-              short-buffer h =
-                  rw (q3, q4, count-right, none-large, none-falls, lt-leb (13 + m * lineLength n) room h)
-
-              pub asked-all : 13 + m * lineLength n ≤ room → writeFault m n vs room ≡ fault 0 0
-              unfolding writeFault
-              asked-all h = rw (q3, q4, count-right, none-large, none-falls, le-leb (13 + m * lineLength n) room h)
+              room-asked = rw (q3, q4, count-right, none-large, none-falls)

@@ -1,8 +1,8 @@
 -- The fault of a list, by the question that gets the first "no" (`write-first-no`, `write-all-yes`, `write-numbers`);
--- its place is 0 (`write-place`). Assumes nothing.
-use mathlib.Core.Path.{_≡_, refl, ap}
+-- its number is at most 11 (`write-range`), and its place is 0 (`write-place`). Assumes nothing.
+use mathlib.Core.Path.{_≡_, refl, sym, ap}
 use mathlib.Core.Logic.{_≢_, _⊎_, _↔_, inl, inr}
-use mathlib.Core.Bool.{Bool, true}
+use mathlib.Core.Bool.{true}
 use mathlib.Core.List.{List, [], _∷_}
 use Prim.Native.Nat.{ℕ, zero, suc, _+_, _-_, _*_, _/_, _%_, _^_, _≤_, _<_}
 use native.Mathlib.Nat.{div-add-mod'}
@@ -10,16 +10,18 @@ use native.Mathlib.Omega.{arith}
 use native.Mathlib.Decide.{decLt}
 use lib.Dec.{leb}
 use lib.ListN.{length, drop, getD, List·getD-eq-default}
-use Rattle.theory.proofs.Tests.{by-test, Means, means-via, eqb-means, leb-means}
+use Rattle.theory.specs.Markets.{Table}
+use Rattle.theory.proofs.Tests.{Means, means-via, eqb-means, leb-means}
 use Rattle.numbers.specs.Numbers.{bit}
-use Rattle.numbers.proofs.Numbers.{line-below, place-below}
+use Rattle.numbers.proofs.Numbers.{factor-some, line-below, place-below}
 use Rattle.sheet.specs.declared.Fault.{Fault}
 use Rattle.sheet.specs.Sheets.{lineLength, Sheet, worth}
-use Rattle.sheet.specs.Questions.{ask, between, firstWrong}
+use Rattle.sheet.specs.Questions.{fault, between, firstWrong}
 use Rattle.sheet.proofs.Tables.{table-empty}
 use Rattle.sheet.proofs.Firsts.{FirstNo, first-asked, first-told, Tells, first-none, first-iff}
 use Rattle.sheet.proofs.Nowhere.{none-large, none-falls}
 use Rattle.sheet.proofs.Faults.{between-means}
+use Rattle.sheet.proofs.Theorems.{ask-cases}
 use Rattle.writing.specs.Lists.{listed, listSheet}
 use Rattle.writing.specs.Answers.{rightCount, noneWrong, writeFault}
 use Rattle.writing.specs.Claims.{questionNumbers, listQuestions, ListQuestion}
@@ -48,7 +50,7 @@ module _ (m n : ℕ) (vs : List ℕ) (few : m ≤ 6) (low : n ≤ 4) (right : le
       elim (decLt k (length vs)) [
         | no h ↦ omega (arith, List·getD-eq-default vs 0 {n = k} (omega arith))
         | yes h ↦
-            let some : 1 ≤ size = positive size (omega (arith, right)) in
+            let some : 1 ≤ size = factor-some k m size (omega (arith, right)) in
             let i = k / size in
             let c = k % size in
             let line : i < m = line-below k m size some (omega (arith, right)) in
@@ -56,10 +58,6 @@ module _ (m n : ℕ) (vs : List ℕ) (few : m ≤ 6) (low : n ≤ 4) (right : le
             let e = listed-worth m n vs few low i (suc c) line there in
             omega (arith, small i (suc c) line there, e, ap (λ x. getD vs x 0) (div-add-mod' k size))
       ]
-    where
-      positive : (z : ℕ) → k < m * z → 1 ≤ z
-      positive zero l = absurd (omega arith)
-      positive (suc z) l = omega arith
 
   pub small-table : Small → SmallTable
   small-table small i zero h g = omega (arith, listed-empty m n vs i)
@@ -72,26 +70,18 @@ module _ (m n : ℕ) (vs : List ℕ) (few : m ≤ 6) (low : n ≤ 4) (right : le
       means-via (eqb-means (firstWrong 7 [] w) 0) (λ z. small-list (to z)) (λ q. back (small-table q))
 
   -- and so is question 8
-  abbrev Growing : (ℕ → ℕ → ℕ) → Type 0
+  abbrev Growing : Table → Type 0
   Growing v = (i s j : ℕ) → i < m → s < 2 ^ n → j < n → bit j s ≡ true → s ≢ 2 ^ j → v i (s - 2 ^ j) ≤ v i s
 
-  pub grow-list : Growing (worth w) → Growing (listed n vs)
-  grow-list q i s j h g l t apart =
-      omega (
-        arith,
-        q i s j h g l t apart,
-        listed-worth m n vs few low i s h g,
-        listed-worth m n vs few low i (s - 2 ^ j) h (omega arith),
-      )
+  grow-same : (v u : Table) → ((i s : ℕ) → i < m → s < 2 ^ n → v i s ≡ u i s) → Growing v → Growing u
+  grow-same v u same q i s j h g l t apart =
+      omega (arith, q i s j h g l t apart, same i s h g, same i (s - 2 ^ j) h (omega arith))
 
-  pub grow-table : Growing (listed n vs) → Growing (worth w)
-  grow-table q i s j h g l t apart =
-      omega (
-        arith,
-        q i s j h g l t apart,
-        listed-worth m n vs few low i s h g,
-        listed-worth m n vs few low i (s - 2 ^ j) h (omega arith),
-      )
+  pub grow-list : Growing (worth w) → Growing (listed n vs)
+  grow-list = grow-same (worth w) (listed n vs) (listed-worth m n vs few low)
+
+  grow-table : Growing (listed n vs) → Growing (worth w)
+  grow-table = grow-same (listed n vs) (worth w) (λ i s h g. sym (listed-worth m n vs few low i s h g))
 
   falls-asked : Means (noneWrong 8 w) (Growing (listed n vs))
   falls-asked =
@@ -113,15 +103,6 @@ tells (suc (suc (suc zero))) h = (omega arith, refl)
 tells (suc (suc (suc (suc zero)))) h = (omega arith, refl)
 tells (suc (suc (suc (suc (suc zero))))) h = (omega arith, refl)
 tells (suc (suc (suc (suc (suc (suc j)))))) h = absurd (omega arith)
-
-low-number : (j : ℕ) → j < 6 → number j ≤ 11
-low-number zero h = omega arith
-low-number (suc zero) h = omega arith
-low-number (suc (suc zero)) h = omega arith
-low-number (suc (suc (suc zero))) h = omega arith
-low-number (suc (suc (suc (suc zero)))) h = omega arith
-low-number (suc (suc (suc (suc (suc zero))))) h = omega arith
-low-number (suc (suc (suc (suc (suc (suc j)))))) h = omega arith
 
 module _ (m n : ℕ) (vs : List ℕ) (room : ℕ) where
   abbrev from : ℕ → List (Type 0)
@@ -163,17 +144,20 @@ module _ (m n : ℕ) (vs : List ℕ) (room : ℕ) where
       elim (first-told number (from 0) (writeFault m n vs room .number) list-first)
       [ inl (z, _) ↦ inl z | inr (j, l, e, _) ↦ inr (j, l, e) ]
 
-  -- 11 is the greatest number
+  -- a fault has a number up to 11, and the place 0
+  fault-cases : (P : Fault → Type 0) → ((k : ℕ) → k ≤ 11 → P (fault k 0)) → P (writeFault m n vs room)
+  unfolding writeFault
+  fault-cases P h =
+      let u = listSheet m n vs in
+      ask-cases P 3 (between 6 m) _ (h 3 (omega arith)) (λ _.
+      ask-cases P 4 (between 4 n) _ (h 4 (omega arith)) (λ _.
+      ask-cases P 5 (rightCount m n vs) _ (h 5 (omega arith)) (λ _.
+      ask-cases P 7 (noneWrong 7 u) _ (h 7 (omega arith)) (λ _.
+      ask-cases P 8 (noneWrong 8 u) _ (h 8 (omega arith)) (λ _.
+      ask-cases P 11 (leb (13 + m * lineLength n) room) _ (h 11 (omega arith)) (λ _. h 0 (omega arith)))))))
+
   pub write-range : writeFault m n vs room .number ≤ 11
-  write-range =
-      elim write-numbers [ inl z ↦ omega arith | inr (j, l, e) ↦ let low = low-number j l in omega (arith, low) ]
+  write-range = fault-cases (λ f. f .number ≤ 11) (λ k low. low)
 
-ask-place : (k : ℕ) (x : Bool) (rest : Unit {0} → Fault) → (rest tt) .place ≡ 0 → ask k x rest .place ≡ 0
-ask-place k x rest h = by-test x (λ e. rw e h) (λ e. rw e refl)
-
-pub write-place : (m n : ℕ) (vs : List ℕ) (room : ℕ) → writeFault m n vs room .place ≡ 0
-unfolding writeFault
-write-place m n vs room =
-    ask-place 3 (between 6 m) _ (ask-place 4 (between 4 n) _ (ask-place 5 (rightCount m n vs) _
-    (ask-place 7 (noneWrong 7 (listSheet m n vs)) _ (ask-place 8 (noneWrong 8 (listSheet m n vs)) _
-    (ask-place 11 (leb (13 + m * lineLength n) room) _ refl)))))
+  pub write-place : writeFault m n vs room .place ≡ 0
+  write-place = fault-cases (λ f. f .place ≡ 0) (λ k _. refl)

@@ -12,7 +12,7 @@ use lib.ListN.{length, take, getD}
 use lib.Seq.{take-at, ext-getD}
 use Rattle.theory.specs.Lists.{tabulate, over}
 use Rattle.theory.proofs.Lists.{tabulate-at, tabulate-length, tabulate-same, tabulate-each}
-use Rattle.numbers.proofs.Numbers.{line-below, place-below}
+use Rattle.numbers.proofs.Numbers.{factor-some, line-below, place-below}
 use Rattle.fields.specs.Fields.{linesOf}
 use Rattle.sheet.specs.Sheets.{Sheet, sheetOf, worth, lineWorths, bytesOf}
 use Rattle.sheet.specs.Questions.{fault, sheetFault}
@@ -106,17 +106,13 @@ in-order m n vs few low right =
     ext-getD 0 (inOrder w) vs (order-length w ∙ sym right) (λ k h.
     let z = 2 ^ n - 1 in
     let below : k < m * z = omega (arith, order-length w) in
-    let some : 1 ≤ z = positive k m z below in
+    let some : 1 ≤ z = factor-some k m z below in
     let line : k / z < m = line-below k m z some below in
     let there : suc (k % z) < 2 ^ n = omega (arith, place-below k z some) in
     let none : 0 + k ≡ k = omega arith in
     tabulate-at (count w) 0 (at w) k 0 below ∙ ap (at w) none
     ∙ listed-worth m n vs few low (k / z) (suc (k % z)) line there
     ∙ ap (λ x. getD vs x 0) (div-add-mod' k z))
-  where
-    positive : (k m z : ℕ) → k < m * z → 1 ≤ z
-    positive k m zero l = absurd (omega arith)
-    positive k m (suc z) l = omega arith
 
 -- the bytes of a sheet are told by its worths
 bytes-same : (w u : Sheet) → w .buyers ≡ u .buyers → w .lots ≡ u .lots →

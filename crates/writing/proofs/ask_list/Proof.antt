@@ -2,16 +2,19 @@
 use mathlib.Core.Bool.{true}
 use mathlib.Core.List.{List}
 use mathlib.Core.Path.{_≡_, sym, ap, _∙_}
-use Prim.Native.Nat.{ℕ, _-_, _*_, _^_, _≤_}
+use Prim.Native.Nat.{ℕ, _+_, _-_, _*_, _^_, _≤_}
 use native.Mathlib.Omega.{arith}
+use lib.Dec.{leb}
 use lib.ListN.{length}
 use borrow.Author.Needs.{needs}
-use borrow.Author.Tests.{not-true, not-false}
+use borrow.Author.Tests.{not-true, not-false, le-leb, lt-leb}
 use Rattle.numbers.proofs.Numbers.{pow-some, product-small}
 use Rattle.sheet.specs.declared.Fault.{Fault}
-use Rattle.sheet.specs.Questions.{between}
+use Rattle.sheet.specs.Sheets.{lineLength}
+use Rattle.sheet.specs.Questions.{fault, ask, between}
 use Rattle.sheet.proofs.Faults.{between-means}
-use Rattle.writing.proofs.Asking.{bad-buyers, bad-lots, bad-count, too-large, falling, short-buffer, asked-all}
+use Rattle.writing.specs.Answers.{writeFault}
+use Rattle.writing.proofs.Asking.{bad-buyers, bad-lots, bad-count, too-large, falling, room-asked}
 use Rattle.writing.proofs.ask_list.Statement.{statement}
 use Rattle.writing.proofs.ask_list.Tie as tie
 
@@ -76,6 +79,20 @@ lines-small : (l : tie.After-line-length) → let q = second (third (fourth (l .
 lines-small l =
     let q = second (third (fourth (l .before))) in
     product-small (m (first q)) (l .line-length .result) 6 91 (few q) (l .line-length .ensures .most)
+
+-- once question 8 got a yes, question 11 is left
+left : (l : tie.After-line-length) → let p = first (second (third (fourth (l .before)))) in
+    writeFault (m p) (n p) (vs p) (room p) ≡ ask 11 (leb (13 + m p * lineLength (n p)) (room p)) (λ _. fault 0 0)
+left l =
+    let e = l .before in
+    let a = again e in
+    let d = fourth e in
+    let t = filled d in
+    let q = second (third d) in
+    let p = first q in
+    room-asked (m p) (n p) (vs p) (room p) (few-buyers p) (few-lots q) (count-right (third d)) (t .table-of .result)
+    (t .table-of .ensures) (asked d .ask-each .result) (asked d .ask-each .ensures) (d .if4 .left)
+    (a .ask-each2 .result) (a .ask-each2 .ensures) (e .if5 .left)
 
 is-between-requires : tie.Need-is-between-requires
 is-between-requires c κs = search needs
@@ -164,30 +181,18 @@ add-if6 c = omega (arith, lines-small c)
 returns-6 : tie.Need-returns-6
 returns-6 c =
     let l = c .before in
-    let e = l .before in
-    let a = again e in
-    let d = fourth e in
-    let t = filled d in
-    let q = second (third d) in
-    let p = first q in
-    sym (ap (λ (f : Fault). f .number) (short-buffer (m p) (n p) (vs p) (room p) (few-buyers p) (few-lots q)
-    (count-right (third d)) (t .table-of .result) (t .table-of .ensures) (asked d .ask-each .result)
-    (asked d .ask-each .ensures) (d .if4 .left) (a .ask-each2 .result) (a .ask-each2 .ensures) (e .if5 .left)
-    (omega (arith, c .if6 .taken, ap (λ x. m p * x) (l .line-length .ensures .is)))))
+    let p = first (second (third (fourth (l .before)))) in
+    let wide = ap (λ x. m p * x) (l .line-length .ensures .is) in
+    sym (ap (λ (f : Fault). f .number) (left l
+    ∙ ap (λ x. ask 11 x (λ _. fault 0 0)) (lt-leb _ (room p) (omega (arith, c .if6 .taken, wide)))))
 
 returns-7 : tie.Need-returns-7
 returns-7 c =
     let l = c .before in
-    let e = l .before in
-    let a = again e in
-    let d = fourth e in
-    let t = filled d in
-    let q = second (third d) in
-    let p = first q in
-    sym (ap (λ (f : Fault). f .number) (asked-all (m p) (n p) (vs p) (room p) (few-buyers p) (few-lots q)
-    (count-right (third d)) (t .table-of .result) (t .table-of .ensures) (asked d .ask-each .result)
-    (asked d .ask-each .ensures) (d .if4 .left) (a .ask-each2 .result) (a .ask-each2 .ensures) (e .if5 .left)
-    (omega (arith, c .if6 .left, ap (λ x. m p * x) (l .line-length .ensures .is)))))
+    let p = first (second (third (fourth (l .before)))) in
+    let wide = ap (λ x. m p * x) (l .line-length .ensures .is) in
+    sym (ap (λ (f : Fault). f .number) (left l
+    ∙ ap (λ x. ask 11 x (λ _. fault 0 0)) (le-leb _ (room p) (omega (arith, c .if6 .left, wide)))))
 
 pub ask-list-spec : {M : Type 1} → statement M
 ask-list-spec =
