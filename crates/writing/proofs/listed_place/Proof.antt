@@ -61,7 +61,7 @@ mul-at : tie.Need-mul-at
 mul-at c = omega (arith, inside c)
 
 sub-at-2 : tie.Need-sub-at-2
-sub-at-2 c = there c .0
+sub-at-2 c = omega (arith, there c)
 
 add-at : tie.Need-add-at
 add-at c = omega (arith, inside c)
