@@ -1,0 +1,127 @@
+-- What `trial_sheet` answers, on each way through: a refusal (`says-refused`), or what its list's writing answers
+-- (`says-written`), since that is asked as the trial is (`asked-alike`); and what `TrialSays` tells of an answer.
+-- Assumes nothing.
+use mathlib.Core.Path.{_≡_, refl, sym, ap, ap₂, _∙_}
+use mathlib.Core.Logic.{_≢_}
+use mathlib.Core.Bool.{true, false}
+use mathlib.Core.List.{List}
+use Prim.Native.Nat.{ℕ, zero, suc, _+_, _-_, _*_, _^_, _≤_, _<_}
+use native.Mathlib.Omega.{arith}
+use native.Mathlib.Decide.{decLe}
+use lib.Dec.{leb}
+use lib.ListN.{length}
+use borrow.Author.Tests.{eq-eqb, ne-eqb, le-leb, lt-leb}
+use Rattle.theory.specs.Sums.{pick, when}
+use Rattle.theory.specs.Lists.{over}
+use Rattle.sheet.specs.declared.Fault.{Fault}
+use Rattle.sheet.specs.Sheets.{lineLength}
+use Rattle.sheet.specs.Questions.{fault, accepts, ask, between}
+use Rattle.sheet.proofs.Faults.{between-means}
+use Rattle.writing.specs.declared.Wrote.{Wrote}
+use Rattle.writing.specs.Lists.{sheetBytes}
+use Rattle.writing.specs.Answers.{writeFault, WriteSays}
+use Rattle.writing.specs.Claims.{ListQuestion}
+use Rattle.writing.proofs.Questions.{write-first-no, write-all-yes, write-place}
+use Rattle.trial.specs.Worths.{trialList}
+use Rattle.trial.specs.Answers.{trialFault, trialBytes, TrialSays}
+use Rattle.trial.proofs.Tables.{trial-grows, list-length, list-small, list-worth}
+
+-- the fault, by the first question that gets a "no"
+module _ (m n top room : ℕ) where
+  pub bad-buyers : between 6 m ≡ false → trialFault m n top room ≡ fault 3 0
+  unfolding trialFault
+  bad-buyers q = rw q
+
+  module _ (q3 : between 6 m ≡ true) where
+    pub bad-lots : between 4 n ≡ false → trialFault m n top room ≡ fault 4 0
+    unfolding trialFault
+    bad-lots q = rw (q3, q)
+
+    module _ (q4 : between 4 n ≡ true) where
+      pub high-top : 9999 < top → trialFault m n top room ≡ fault 7 0
+      unfolding trialFault
+      high-top q = rw (q3, q4, lt-leb top 9999 q)
+
+      pub room-asked : top ≤ 9999 →
+          trialFault m n top room ≡ ask 11 (leb (13 + m * lineLength n) room) (λ _. fault 0 0)
+      unfolding trialFault
+      room-asked q = rw (q3, q4, le-leb top 9999 q)
+
+-- a list that is drawn gets a "yes" to every question but the last
+module _ (N m n top room : ℕ) (q3 : between 6 m ≡ true) (q4 : between 4 n ≡ true) (q7 : top ≤ 9999) where
+  abbrev vs : List ℕ
+  vs = trialList N m n top
+
+  list-asked : (j : ℕ) → j < 5 → ListQuestion m n vs room j
+  list-asked zero h = between-means 6 m .0 q3
+  list-asked (suc zero) h = between-means 4 n .0 q4
+  list-asked (suc (suc zero)) h = list-length N m n top
+  list-asked (suc (suc (suc zero))) h = list-small N m n top
+  list-asked (suc (suc (suc (suc zero)))) h = λ i s j g b l t _.
+      omega (
+        arith,
+        trial-grows N n top i s j l t,
+        list-worth N m n top i s g b,
+        list-worth N m n top i (s - 2 ^ j) g (omega arith),
+      )
+  list-asked (suc (suc (suc (suc (suc j))))) h = absurd (omega arith)
+
+  by-number : (k : ℕ) → writeFault m n vs room .number ≡ k → writeFault m n vs room ≡ fault k 0
+  by-number k e = ap₂ fault e (write-place m n vs room)
+
+  pub asked-alike : writeFault m n vs room ≡ trialFault m n top room
+  asked-alike =
+      elim (decLe (13 + m * lineLength n) room) [
+        | yes h ↦
+            by-number 0 (write-all-yes m n vs room .1 (all-asked h))
+            ∙ sym (room-asked m n top room q3 q4 q7 ∙ ap (λ x. ask 11 x (λ _. fault 0 0)) (le-leb _ room h))
+        | no h ↦
+            by-number 11 (write-first-no m n vs room 5 (omega arith) .1 (list-asked, λ q. h q))
+            ∙ sym (room-asked m n top room q3 q4 q7
+            ∙ ap (λ x. ask 11 x (λ _. fault 0 0)) (lt-leb _ room (omega arith)))
+      ]
+    where
+      all-asked : 13 + m * lineLength n ≤ room → (j : ℕ) → ListQuestion m n vs room j
+      all-asked h zero = list-asked 0 (omega arith)
+      all-asked h (suc zero) = list-asked 1 (omega arith)
+      all-asked h (suc (suc zero)) = list-asked 2 (omega arith)
+      all-asked h (suc (suc (suc zero))) = list-asked 3 (omega arith)
+      all-asked h (suc (suc (suc (suc zero)))) = list-asked 4 (omega arith)
+      all-asked h (suc (suc (suc (suc (suc zero))))) = h
+      all-asked h (suc (suc (suc (suc (suc (suc j)))))) = tt
+
+abbrev wrote : ℕ → ℕ → ℕ → Wrote
+wrote number place long = record { number = number; place = place; length = long }
+
+-- the answer and the buffer, by the fault and the bytes of the sheet
+abbrev answerBy : Fault → List ℕ → Wrote
+answerBy f b = wrote (f .number) (f .place) (when (accepts f) (length b))
+
+abbrev bufferBy : Fault → List ℕ → List ℕ → List ℕ
+bufferBy f b o = pick (accepts f) (over b o) o
+
+module _ (N m n top : ℕ) (o : List ℕ) where
+  abbrev f : Fault
+  f = trialFault m n top (length o)
+
+  abbrev b : List ℕ
+  b = trialBytes N m n top
+
+  pub says-refused : (k : ℕ) → f ≡ fault k 0 → k ≢ 0 → (r : Wrote) → r ≡ wrote k 0 0 → TrialSays N m n top o o r
+  says-refused k e h r is =
+      let t = ne-eqb k 0 h in
+      record {
+        answer = is ∙ ap (λ x. wrote k 0 (when x (length b))) (sym t) ∙ sym (ap (λ x. answerBy x b) e);
+        bytes = ap (λ x. pick x (over b o) o) (sym t) ∙ sym (ap (λ x. bufferBy x b o) e);
+      }
+
+  pub says-written : between 6 m ≡ true → between 4 n ≡ true → top ≤ 9999 → (vs o′ : List ℕ) (r : Wrote) →
+      vs ≡ trialList N m n top → WriteSays m n vs o o′ r → TrialSays N m n top o o′ r
+  unfolding trialBytes
+  says-written q3 q4 q7 vs o′ r e says =
+      let alike = ap (λ l. writeFault m n l (length o)) e ∙ asked-alike N m n top (length o) q3 q4 q7 in
+      let same = ap (sheetBytes m n) e in
+      record {
+        answer = says .answer ∙ ap₂ answerBy alike same;
+        bytes = says .bytes ∙ ap₂ (λ x l. bufferBy x l o) alike same;
+      }

@@ -1,0 +1,59 @@
+-- `trial::most_fewer` meets its contract. The invariant: the greatest worth so far and those without the lots from j on
+-- give the greatest of all.
+use mathlib.Core.Path.{_≡_}
+use mathlib.Core.Logic.{⊎-elim}
+use Prim.Native.Nat.{max, _-_, _≤_}
+use native.Mathlib.Nat.{sub-zero}
+use native.Mathlib.Omega.{arith}
+use Rattle.theory.specs.Lists.{most, upTo}
+use Rattle.theory.proofs.Loops.{most-more, most-done}
+use Rattle.trial.specs.Worths.{rowWorth, worthWithout, mostFewer}
+use Rattle.trial.proofs.most_fewer.Statement.{statement}
+use Rattle.trial.proofs.most_fewer.Tie as tie
+
+abbrev Inv-loop : tie.InvT-loop
+Inv-loop row n s most₀ j₀ top j =
+    (j ≤ n) × (top ≤ 9999) × (max top (most (worthWithout (rowWorth row) s) (upTo (n - j) j)) ≡ mostFewer n (rowWorth row) s)
+
+abbrev μ-loop : tie.MeasureT-loop
+μ-loop row n s most₀ j₀ top j = n - j
+
+loop-holds : tie.Need-loop-holds Inv-loop μ-loop
+loop-holds c = (omega arith, omega arith, rw sub-zero (omega arith))
+
+worth-without-requires : tie.Need-worth-without-requires Inv-loop μ-loop
+worth-without-requires c κs =
+    let z = c .before .before .before in (omega arith, omega arith, z .pre .2)
+
+add-j : tie.Need-add-j Inv-loop μ-loop
+add-j c = omega arith
+
+loop-less : tie.Need-loop-less Inv-loop μ-loop
+loop-less c = omega arith
+
+loop-again : tie.Need-loop-again Inv-loop μ-loop
+loop-again c =
+    let l = c .before .before .before in
+    let z = l .before .before .args in
+    let p = c .before .worth-without in
+    let next = most-more (z .n) (l .loop .j) (c .before .before .loop-test .taken) (worthWithout (rowWorth (z .row .now)) (z .s))
+    (l .loop .most) (c .if1 .most) _ (l .loop .inv .2) in
+    ⊎-elim
+    (λ w. (omega arith, omega (arith, p .ensures .most), next (omega (arith, p .ensures .is))))
+    (λ w. (omega arith, omega arith, next (omega (arith, p .ensures .is))))
+    (c .if1 .came)
+
+returns : tie.Need-returns Inv-loop μ-loop
+returns c =
+    let l = c .before in
+    let z = l .before .before .args in
+    record {
+      is =
+          most-done (z .n) (l .loop .j) (omega arith) (worthWithout (rowWorth (z .row .now)) (z .s)) (l .loop .most) _
+          (l .loop .inv .2);
+      most = l .loop .inv .1;
+    }
+
+pub most-fewer-spec : {M : Type 1} → statement M
+most-fewer-spec =
+    tie.close (tie.spec Inv-loop μ-loop loop-holds worth-without-requires add-j loop-less loop-again returns)

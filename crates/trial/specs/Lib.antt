@@ -1,0 +1,3 @@
+-- Trial sheets, drawn from a generator.
+pub mod Worths
+pub mod Answers
