@@ -5,6 +5,7 @@ ghost use Rattle.sale.specs.Answers.{demandAnswer, SaleSays};
 ghost use Rattle.direct.specs.Answers.{directAnswer};
 ghost use Rattle.printed.specs.Printed.{PrintSays};
 ghost use Rattle.writing.specs.Answers.{WriteSays};
+ghost use Rattle.trial.specs.Answers.{TrialSays};
 ghost use Rattle.hokewhuni.specs.Boundary.{fieldAnswer};
 use direct::Direct;
 use fields::Field;
@@ -97,4 +98,18 @@ pub extern "C" fn hokewhuni_write_sheet(
     ensures { λ r. ⌜ WriteSays buyers lots (now (worths .entry)) (now (out .entry)) (now (out .exit)) r ⌝ }
 {
     writing::write_sheet(buyers, lots, worths, out)
+}
+
+// Starts the generator anew in each call.
+#[no_mangle]
+pub extern "C" fn hokewhuni_trial_sheet(
+    number: u16,
+    buyers: u32,
+    lots: u32,
+    top: u32,
+    out: &mut [u8],
+) -> Wrote
+    ensures { λ r. ⌜ TrialSays number buyers lots top (now (out .entry)) (now (out .exit)) r ⌝ }
+{
+    trial::trial_sheet(number, buyers, lots, top, out)
 }
