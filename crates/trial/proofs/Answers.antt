@@ -24,28 +24,9 @@ use Rattle.writing.specs.Claims.{ListQuestion}
 use Rattle.writing.proofs.Questions.{write-first-no, write-all-yes, write-place}
 use Rattle.trial.specs.Worths.{trialList}
 use Rattle.trial.specs.Answers.{trialFault, trialBytes, TrialSays}
+use Rattle.trial.proofs.Asking.{room-asked}
+use Rattle.trial.proofs.Questions.{trial-place-none}
 use Rattle.trial.proofs.Tables.{trial-grows, list-length, list-small, list-worth}
-
--- the fault, by the first question that gets a "no"
-module _ (m n top room : ℕ) where
-  pub bad-buyers : between 6 m ≡ false → trialFault m n top room ≡ fault 3 0
-  unfolding trialFault
-  bad-buyers q = rw q
-
-  module _ (q3 : between 6 m ≡ true) where
-    pub bad-lots : between 4 n ≡ false → trialFault m n top room ≡ fault 4 0
-    unfolding trialFault
-    bad-lots q = rw (q3, q)
-
-    module _ (q4 : between 4 n ≡ true) where
-      pub high-top : 9999 < top → trialFault m n top room ≡ fault 7 0
-      unfolding trialFault
-      high-top q = rw (q3, q4, lt-leb top 9999 q)
-
-      pub room-asked : top ≤ 9999 →
-          trialFault m n top room ≡ ask 11 (leb (13 + m * lineLength n) room) (λ _. fault 0 0)
-      unfolding trialFault
-      room-asked q = rw (q3, q4, le-leb top 9999 q)
 
 -- a list that is drawn gets a "yes" to every question but the last
 module _ (N m n top room : ℕ) (q3 : between 6 m ≡ true) (q4 : between 4 n ≡ true) (q7 : top ≤ 9999) where
@@ -125,3 +106,25 @@ module _ (N m n top : ℕ) (o : List ℕ) where
         answer = says .answer ∙ ap₂ answerBy alike same;
         bytes = says .bytes ∙ ap₂ (λ x l. bufferBy x l o) alike same;
       }
+
+  -- the other way round
+  module _ (o′ : List ℕ) (r : Wrote) (says : TrialSays N m n top o o′ r) where
+    pub told-number : r .number ≡ f .number
+    told-number = ap (λ (x : Wrote). x .number) (says .answer)
+
+    pub told-place : r .place ≡ 0
+    told-place = ap (λ (x : Wrote). x .place) (says .answer) ∙ trial-place-none m n top (length o)
+
+    pub told-refused : r .number ≢ 0 → (r .length ≡ 0) × (o′ ≡ o)
+    told-refused h =
+        let t = ne-eqb (f .number) 0 (λ z. h (told-number ∙ z)) in (
+          ap (λ (x : Wrote). x .length) (says .answer) ∙ ap (λ x. when x (length b)) t,
+          says .bytes ∙ ap (λ x. pick x (over b o) o) t,
+        )
+
+    pub told-written : r .number ≡ 0 → (r .length ≡ length b) × (o′ ≡ over b o)
+    told-written z =
+        let t = eq-eqb (f .number) 0 (sym told-number ∙ z) in (
+          ap (λ (x : Wrote). x .length) (says .answer) ∙ ap (λ x. when x (length b)) t,
+          says .bytes ∙ ap (λ x. pick x (over b o) o) t,
+        )

@@ -8,6 +8,7 @@ use lib.Dec.{eqb, leb}
 use lib.ListN.{length, replicate}
 use Rattle.theory.specs.Sums.{pick, when}
 use Rattle.theory.specs.Lists.{over}
+use Rattle.theory.specs.Tests.{every}
 use Rattle.fields.specs.Fields.{fieldAt, good, numberAt, lineOf}
 use Rattle.sheet.specs.declared.Fault.{Fault}
 use Rattle.sheet.specs.Sheets.{lineLength}
@@ -45,12 +46,9 @@ pub record TrialSays (N m n top : ℕ) (o o′ : List ℕ) (r : Wrote) : Type 0 
   pub bytes : o′ ≡ trialOver N m n top o
 
 -- rule 12.8: four numbers in six columns each and nothing else, the first of them a sheet's number
-abbrev pub fourFields : List ℕ → Bool
-fourFields b =
-    eqb (length b) 24 && (good (fieldAt 0 b) && (good (fieldAt 6 b) && (good (fieldAt 12 b) && good (fieldAt 18 b))))
-
-abbrev pub trialAsked : List ℕ → Bool
-trialAsked b = fourFields b && leb (numberAt 0 b) 65535
+unfoldable pub trialAsked : List ℕ → Bool
+trialAsked b =
+    eqb (length b) 24 && (every 4 0 (λ k. good (fieldAt (6 * k) b)) && leb (numberAt 0 b) 65535)
 
 -- rule 12.9: the sheet, or the line of a refusal; 559 bytes have room for every sheet
 abbrev pub trialLines : ℕ → ℕ → ℕ → ℕ → List ℕ
@@ -62,5 +60,8 @@ unfoldable pub trialText : List ℕ → List ℕ
 trialText b = pick (trialAsked b) (trialLines (numberAt 0 b) (numberAt 6 b) (numberAt 12 b) (numberAt 18 b)) []
 
 -- at the front of 559 bytes, of which the others are 0
+abbrev pub textOf : List ℕ → SheetText
+textOf t = record { bytes = over t (replicate 559 0); length = length t }
+
 abbrev pub trialTextOf : List ℕ → SheetText
-trialTextOf b = record { bytes = over (trialText b) (replicate 559 0); length = length (trialText b) }
+trialTextOf b = textOf (trialText b)

@@ -4,10 +4,12 @@ ghost use Prim.Native.Nat.{ℕ, _+_, _≤_, _<_};
 ghost use lib.ListN.{length, getD};
 ghost use Rattle.numbers.specs.Numbers.{Is};
 ghost use Rattle.trial.specs.Worths.{rowWorth, worthWithout, mostFewer, raisedBy, mostWorths};
-ghost use Rattle.trial.specs.Answers.{TrialSays};
+ghost use Rattle.trial.specs.Answers.{TrialSays, trialAsked, trialLines, textOf, trialTextOf};
 use lines::bundles;
 use numbers::has;
+use printing::put_line;
 use reading::is_between;
+use writing::SheetText;
 use writing::Wrote;
 
 // What bundle s is worth without lot j + 1, by the worths of the bundles from 1 on; 0 if it has not that lot.
@@ -105,4 +107,53 @@ pub fn trial_sheet(number: u16, buyers: u32, lots: u32, top: u32, out: &mut [u8]
     let worths = most_worths(number, n, top);
     let count = m * (bundles(n) - 1);
     writing::write_sheet(buyers, lots, &worths[..count], out)
+}
+
+// Whether some bytes are four numbers in six columns each, the first of them at most 65,535.
+fn is_asked(numbers: &[u8]) -> bool
+    ensures { λ r. ⌜ r ≡ trialAsked (now (numbers .entry)) ⌝ }
+{
+    if numbers.len() != 24 {
+        return false;
+    }
+    let mut k: usize = 0;
+    while k < 4 {
+        if !fields::field_good(numbers, 6 * k) {
+            return false;
+        }
+        k += 1;
+    }
+    fields::field_number(numbers, 0) <= 65535
+}
+
+// The trial sheet of four numbers, or the line of its refusal.
+fn text_of(number: u16, buyers: u32, lots: u32, top: u32) -> SheetText
+    ensures { λ r. ⌜ r ≡ textOf (trialLines number buyers lots top) ⌝ }
+{
+    let mut bytes = [0u8; 559];
+    let wrote = trial_sheet(number, buyers, lots, top, &mut bytes);
+    if wrote.number == 0 {
+        let length = wrote.length as usize;
+        return SheetText { bytes, length };
+    }
+    let line = [wrote.number as u32, wrote.place];
+    put_line(&mut bytes, &line);
+    SheetText { bytes, length: 13 }
+}
+
+// The trial sheet of four numbers in fields of six columns, or the line of its refusal; nothing of other bytes.
+pub fn trial_text(numbers: &[u8]) -> SheetText
+    ensures { λ r. ⌜ r ≡ trialTextOf (now (numbers .entry)) ⌝ }
+{
+    if !is_asked(numbers) {
+        return SheetText {
+            bytes: [0u8; 559],
+            length: 0,
+        };
+    }
+    let number = fields::field_number(numbers, 0) as u16;
+    let buyers = fields::field_number(numbers, 6);
+    let lots = fields::field_number(numbers, 12);
+    let top = fields::field_number(numbers, 18);
+    text_of(number, buyers, lots, top)
 }

@@ -13,7 +13,8 @@ use Rattle.sheet.proofs.Faults.{between-means}
 use Rattle.writing.proofs.Limits.{count-small}
 use Rattle.trial.specs.Worths.{trialList}
 use Rattle.trial.proofs.Tables.{most-length, list-front}
-use Rattle.trial.proofs.Answers.{bad-buyers, bad-lots, high-top, says-refused, says-written}
+use Rattle.trial.proofs.Asking.{bad-buyers, bad-lots, high-top}
+use Rattle.trial.proofs.Answers.{says-refused, says-written}
 use Rattle.trial.proofs.trial_sheet.Statement.{statement}
 use Rattle.trial.proofs.trial_sheet.Tie as tie
 

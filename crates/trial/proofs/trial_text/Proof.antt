@@ -1,0 +1,67 @@
+-- `trial::trial_text` meets its contract.
+use mathlib.Core.Path.{_≡_, sym, ap, _∙_}
+use mathlib.Core.Bool.{true}
+use Prim.Native.Nat.{ℕ, _≤_}
+use native.Mathlib.Omega.{arith}
+use borrow.Author.Needs.{needs}
+use borrow.Author.Tests.{not-true, not-false}
+use Rattle.trial.specs.Answers.{trialAsked, trialLines, textOf}
+use Rattle.trial.proofs.Fields.{asked-means}
+use Rattle.trial.proofs.Texts.{text-none, text-by}
+use Rattle.trial.proofs.trial_text.Statement.{statement}
+use Rattle.trial.proofs.trial_text.Tie as tie
+
+is-asked-requires : tie.Need-is-asked-requires
+is-asked-requires c κs = search needs
+
+returns : tie.Need-returns
+returns c =
+    let b = c .before .before .before .args .numbers .now in
+    sym (ap textOf (text-none b (sym (c .before .is-asked .ensures) ∙ not-true _ (c .if1 .taken))))
+
+-- the bytes are four numbers
+asked : (p : tie.Else1) → trialAsked (p .before .before .before .args .numbers .now) ≡ true
+asked p = sym (p .before .is-asked .ensures) ∙ not-false _ (p .if1 .left)
+
+field-number-requires : tie.Need-field-number-requires
+field-number-requires c κs = search needs
+
+cast-number : tie.Need-cast-number
+cast-number c =
+    let b = c .before .before .before .before .args .numbers .now in
+    omega (arith, c .field-number .ensures, asked-means b .0 (asked (c .before)) .1 .1)
+
+field-number-requires-2 : tie.Need-field-number-requires-2
+field-number-requires-2 c κs = search needs
+
+field-number-requires-3 : tie.Need-field-number-requires-3
+field-number-requires-3 c κs = search needs
+
+field-number-requires-4 : tie.Need-field-number-requires-4
+field-number-requires-4 c κs = search needs
+
+text-of-requires : tie.Need-text-of-requires
+text-of-requires c κs = search needs
+
+returns-2 : tie.Need-returns-2
+returns-2 c =
+    let p = c .before .before .before .before in
+    let e = p .before in
+    c .text-of .ensures
+    ∙ text-by (e .before .before .before .args .numbers .now) (asked e) _ _ _ _ (p .field-number .ensures)
+    (c .before .before .before .field-number2 .ensures) (c .before .before .field-number3 .ensures)
+    (c .before .field-number4 .ensures)
+
+pub trial-text-spec : {M : Type 1} → statement M
+trial-text-spec =
+    tie.close
+    (tie.spec
+    is-asked-requires
+    returns
+    field-number-requires
+    cast-number
+    field-number-requires-2
+    field-number-requires-3
+    field-number-requires-4
+    text-of-requires
+    returns-2)
