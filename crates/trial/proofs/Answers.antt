@@ -25,7 +25,7 @@ use Rattle.writing.proofs.Questions.{write-first-no, write-all-yes, write-place
 use Rattle.trial.specs.Worths.{trialList}
 use Rattle.trial.specs.Answers.{trialFault, trialBytes, TrialSays}
 use Rattle.trial.proofs.Asking.{room-asked}
-use Rattle.trial.proofs.Questions.{trial-place-none}
+use Rattle.trial.proofs.Questions.{trial-all-yes, trial-place-none}
 use Rattle.trial.proofs.Tables.{trial-grows, list-length, list-small, list-worth}
 
 -- a list that is drawn gets a "yes" to every question but the last
@@ -128,3 +128,15 @@ module _ (N m n top : ℕ) (o : List ℕ) where
           ap (λ (x : Wrote). x .length) (says .answer) ∙ ap (λ x. when x (length b)) t,
           says .bytes ∙ ap (λ x. pick x (over b o) o) t,
         )
+
+    -- a list that is drawn, and written
+    pub told-writes : r .number ≡ 0 → WriteSays m n (trialList N m n top) o o′ r
+    unfolding trialBytes
+    told-writes z =
+        let yes-to = trial-all-yes m n top (length o) .0 (sym told-number ∙ z) in
+        let alike = sym (asked-alike N m n top (length o) (between-means 6 m .1 (yes-to 0)) (between-means 4 n .1 (yes-to 1))
+        (yes-to 2)) in
+        record {
+          answer = says .answer ∙ ap (λ x. answerBy x b) alike;
+          bytes = says .bytes ∙ ap (λ x. bufferBy x b o) alike;
+        }

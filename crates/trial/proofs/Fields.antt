@@ -1,18 +1,27 @@
 -- Bytes that are four numbers in six columns each, the first of them a sheet's number: what `is_asked` finds on each way
--- through (`not-long`, `not-good`, `all-good`). Assumes nothing.
+-- through (`not-long`, `not-good`, `all-good`); that these bytes and no others are asked, and what their numbers are
+-- (`typed-asked`, `asked-typed`). Assumes nothing.
 use mathlib.Core.Path.{_≡_, refl, sym, ap, _∙_}
 use mathlib.Core.Logic.{_≢_}
 use mathlib.Core.Bool.{Bool, true, false}
 use mathlib.Core.List.{List, [], _∷_}
-use Prim.Native.Nat.{ℕ, _*_, _≤_}
+use Prim.Native.Nat.{ℕ, zero, suc, _*_, _≤_, _<_}
+use native.Mathlib.Omega.{arith}
 use lib.Dec.{leb}
-use lib.ListN.{length}
+use lib.ListN.{length, take, drop, getD}
+use lib.Seq.{take-at}
 use borrow.Author.Tests.{eq-eqb, ne-eqb}
 use Rattle.theory.specs.Sums.{Among}
 use Rattle.theory.specs.Tests.{every}
-use Rattle.theory.proofs.Tests.{Means, itself, and-means, eqb-means, leb-means, every-means}
-use Rattle.fields.specs.Fields.{fieldAt, good, numberAt}
+use Rattle.theory.proofs.Tests.{Means, fails, itself, and-means, eqb-means, leb-means, every-means}
+use Rattle.fields.specs.declared.Field.{Field}
+use Rattle.fields.specs.declared.Field.the-variants.{Number, Faulty}
+use Rattle.fields.specs.Fields.{fieldAt, good, numberOf, numberAt, columns, fieldsOf}
+use Rattle.fields.proofs.Canonical.{field-canonical}
+use Rattle.fields.proofs.Lines.{columns-length, fields-length}
+use Rattle.writing.proofs.Texts.{field-in, fields-all}
 use Rattle.trial.specs.Answers.{trialAsked}
+use Rattle.trial.specs.Claims.{Typed}
 
 module _ (b : List ℕ) where
   abbrev pub goodFields : Bool
@@ -38,3 +47,68 @@ module _ (b : List ℕ) where
   asked-means =
       and-means (eqb-means (length b) 24)
       (and-means (every-means 4 0 (λ k _. itself (good (fieldAt (6 * k) b)))) (leb-means (numberAt 0 b) 65535))
+
+good-number : (f : Field) → good f ≡ true → f ≡ Number (numberOf f)
+good-number (Number v) e = refl
+good-number (Faulty at) e = fails e refl
+
+number-is : (f : Field) (v : ℕ) → f ≡ Number v → (good f ≡ true) × (numberOf f ≡ v)
+number-is f v e = (ap good e, ap numberOf e)
+
+-- numbers in fields are read as they are
+field-read : (l : List ℕ) (k : ℕ) → k < length l → getD l k 0 ≤ 999999 →
+    fieldAt (6 * k) (fieldsOf l) ≡ Number (getD l k 0)
+field-read l k h small =
+    field-canonical (fieldsOf l) (6 * k) (getD l k 0) .1 (
+      omega (arith, fields-length l),
+      small,
+      ap (take 6) (field-in l k h)
+          ∙ take-at (columns 6 (getD l k 0)) (fieldsOf (drop (suc k) l)) 6 (columns-length 6 (getD l k 0)),
+    )
+
+-- the numbers that the bytes have
+pub record Numbers (b : List ℕ) (N m n top : ℕ) : Type 0 where
+  pub asked : trialAsked b ≡ true
+  pub first : N ≡ numberAt 0 b
+  pub second : m ≡ numberAt 6 b
+  pub third : n ≡ numberAt 12 b
+  pub fourth : top ≡ numberAt 18 b
+
+pub typed-asked : (b : List ℕ) (N m n top : ℕ) → Typed b N m n top → Numbers b N m n top
+typed-asked b N m n top t =
+    let l = N ∷ m ∷ n ∷ top ∷ [] in
+    let read : (k : ℕ) → k < 4 → (good (fieldAt (6 * k) b) ≡ true) × (numberAt (6 * k) b ≡ getD l k 0) =
+    λ k h. number-is (fieldAt (6 * k) b) (getD l k 0)
+    (ap (fieldAt (6 * k)) (t .bytes) ∙ field-read l k (omega arith) (small k h)) in
+    record {
+      asked = asked-means b .1 (
+        ap length (t .bytes) ∙ fields-length l,
+        (λ k r. read k (omega arith) .0, omega (arith, read 0 (omega arith) .1, t .number)),
+      );
+      first = sym (read 0 (omega arith) .1);
+      second = sym (read 1 (omega arith) .1);
+      third = sym (read 2 (omega arith) .1);
+      fourth = sym (read 3 (omega arith) .1);
+    }
+  where
+    small : (k : ℕ) → k < 4 → getD (N ∷ m ∷ n ∷ top ∷ []) k 0 ≤ 999999
+    small zero h = omega (arith, t .number)
+    small (suc zero) h = t .small .0
+    small (suc (suc zero)) h = t .small .1
+    small (suc (suc (suc zero))) h = t .small .2
+    small (suc (suc (suc (suc k)))) h = absurd (omega arith)
+
+pub asked-typed : (b : List ℕ) → trialAsked b ≡ true →
+    Typed b (numberAt 0 b) (numberAt 6 b) (numberAt 12 b) (numberAt 18 b)
+asked-typed b e =
+    let (long, (each, number)) = asked-means b .0 e in
+    let read : (k : ℕ) → k < 4 → (numberAt (6 * k) b ≤ 999999) × (take 6 (drop (6 * k) b) ≡ columns 6 (numberAt (6 * k) b)) =
+    λ k h.
+    let (_, small, is) = field-canonical b (6 * k) (numberAt (6 * k) b) .0
+    (good-number (fieldAt (6 * k) b) (each k (omega arith))) in
+    (small, is) in
+    record {
+      bytes = fields-all 4 b (λ k. numberAt (6 * k) b) (omega arith) (λ k h. read k h .1);
+      number = number;
+      small = (read 1 (omega arith) .0, read 2 (omega arith) .0, read 3 (omega arith) .0);
+    }

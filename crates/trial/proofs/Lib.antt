@@ -6,3 +6,5 @@ pub mod Questions
 pub mod Answers
 pub mod Fields
 pub mod Texts
+pub mod Sold
+pub mod Trials

@@ -26,6 +26,8 @@ use Rattle.writing.proofs.Limits.{bytes-small}
 use Rattle.trial.specs.Worths.{trialList}
 use Rattle.trial.specs.Answers.{trialFault, trialBytes, TrialSays, trialAsked, trialLines, trialText, textOf}
 use Rattle.trial.specs.Answers.{trialTextOf}
+use Rattle.trial.specs.Claims.{Typed}
+use Rattle.trial.proofs.Fields.{typed-asked, asked-typed}
 use Rattle.trial.proofs.Questions.{trial-all-yes, trial-place-none, room-alike, never-eleven}
 use Rattle.trial.proofs.Answers.{told-number, told-place, told-refused, told-written}
 
@@ -117,6 +119,33 @@ module _ (b : List ℕ) where
       by-test (trialAsked b)
       (λ e. rw (text-lines e) (lines-longest (numberAt 0 b) (numberAt 6 b) (numberAt 12 b) (numberAt 18 b)))
       (λ e. rw (text-none e) (omega arith))
+
+  pub text-typed : 1 ≤ length (trialText b) → (N : ℕ) × ((m : ℕ) × ((n : ℕ) × ((top : ℕ) × Typed b N m n top)))
+  text-typed some =
+      by-test (trialAsked b)
+      (λ e. (numberAt 0 b, (numberAt 6 b, (numberAt 12 b, (numberAt 18 b, asked-typed b e)))))
+      (λ e. absurd (omega (arith, ap length (text-none e))))
+
+pub text-says : (b : List ℕ) (N m n top : ℕ) → Typed b N m n top → (o o′ : List ℕ) (r : Wrote) → 559 ≤ length o →
+    TrialSays N m n top o o′ r → (r .number ≢ 11) × (r .number ≡ 0 → trialText b ≡ take (r .length) o′)
+    × (r .number ≢ 0 → trialText b ≡ lineOf (r .number ∷ r .place ∷ []))
+text-says b N m n top typed o o′ r long says =
+    let known = typed-asked b N m n top typed in
+    let text : trialText b ≡ trialLines N m n top =
+    text-lines b (known .asked)
+    ∙ sym (ap₂ (λ x y. trialLines x y n top) (known .first) (known .second)
+    ∙ ap₂ (trialLines (numberAt 0 b) (numberAt 6 b)) (known .third) (known .fourth)) in
+    let same : r .number ≡ f N m n top .number =
+    told-number N m n top o o′ r says ∙ ap (λ (g : Fault). g .number) (room-alike m n top (length o) long) in (
+      λ e. never-eleven m n top 559 (omega arith) (sym same ∙ e),
+      λ z.
+          let (length-is, bytes) = told-written N m n top o o′ r says z in
+          text ∙ accepted-lines N m n top (sym same ∙ z)
+          ∙ sym (ap (take (r .length)) bytes ∙ take-at (trialBytes N m n top) _ (r .length) (sym length-is)),
+      λ h.
+          text ∙ refused-lines N m n top (λ z. h (same ∙ z))
+          ∙ ap₂ (line N m n top) (sym same) (sym (told-place N m n top o o′ r says)),
+    )
 
 -- what is answered lies within its bytes
 pub text-within : (b : List ℕ) (r : SheetText) → r ≡ trialTextOf b → r .length ≤ length (r .bytes)

@@ -173,7 +173,7 @@ text-within b r e =
     )
 
 -- numbers in fields are read as they are
-field-in : (l : List ℕ) (k : ℕ) → k < length l →
+pub field-in : (l : List ℕ) (k : ℕ) → k < length l →
     drop (6 * k) (fieldsOf l) ≡ columns 6 (getD l k 0) ++ fieldsOf (drop (suc k) l)
 field-in [] k h = absurd (omega arith)
 field-in (v ∷ l) zero h = refl
@@ -212,7 +212,7 @@ good-field : (f : Field) → orTooLarge f ≤ 9999 → f ≡ Number (orTooLarge 
 good-field (Number v) h = refl
 good-field (Faulty at) h = absurd (omega arith)
 
-fields-all : (k : ℕ) (b : List ℕ) (g : ℕ → ℕ) → length b ≡ 6 * k →
+pub fields-all : (k : ℕ) (b : List ℕ) (g : ℕ → ℕ) → length b ≡ 6 * k →
     ((j : ℕ) → j < k → take 6 (drop (6 * j) b) ≡ columns 6 (g j)) → b ≡ fieldsOf (tabulate k 0 g)
 fields-all zero [] g long each = refl
 fields-all zero (x ∷ b) g long each = absurd (omega arith)
