@@ -1,6 +1,7 @@
 // Marsaglia's xorwow: a generator of numbers of 32 bits that anyone can run again.
 ghost use mathlib.Core.Path.{_≡_};
 ghost use Rattle.generator.specs.Xorwow.{drawn, after};
+ghost use Rattle.generator.specs.Claims.{Draws};
 
 // The generator's state.
 pub struct Generator {
@@ -57,3 +58,8 @@ pub fn after_draws(count: u32) -> Generator
     }
     g
 }
+
+// Does nothing. Its contract has what is claimed of the generator, so that none of it can be dropped unseen.
+pub fn draws_hold()
+    ensures { λ _. ⌜ Draws ⌝ }
+{}
