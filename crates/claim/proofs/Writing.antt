@@ -204,7 +204,7 @@ rewrites b y l x x′ w right same long says =
     (z, length-is ∙ ap length e, bytes ∙ ap (λ c. c ++ drop (length c) x) e)
 
 -- numbers in fields, with a line end, are a line
-fields-line : (b : List ℕ) (l : List ℕ) → b ++ (10 ∷ []) ≡ line l → ((k : ℕ) → getD l k 0 ≤ 999999) → b ≡ fieldsOf l
+pub fields-line : (b : List ℕ) (l : List ℕ) → b ++ (10 ∷ []) ≡ line l → ((k : ℕ) → getD l k 0 ≤ 999999) → b ≡ fieldsOf l
 fields-line b l e small =
     let end : List ℕ = 10 ∷ [] in
     let is : b ++ end ≡ fieldsOf l ++ end = e ∙ line-same l small in

@@ -27,6 +27,17 @@ pub bit-below : (n j x : ℕ) → x < 2 ^ n → bit j x ≡ true → j < n
 bit-below n j x h b =
     elim (decLt j n) [ yes l ↦ l | no l ↦ absurd (omega (arith, bit-le j x b, pow-mono {i = n} {j = j} (omega arith))) ]
 
+-- and one that is not 0 has one of them
+pub bit-some : (n x : ℕ) → 1 ≤ x → x < 2 ^ n → (j : ℕ) × (j < n) × (bit j x ≡ true)
+bit-some zero x some h = absurd (omega arith)
+bit-some (suc n) x some h =
+    elim (ℕ-discrete (x % 2) 1) [
+      | yes e ↦ (0, omega arith, eq-eqb (x / 1 % 2) 1 (omega arith))
+      | no e ↦
+          let (j, l, b) = bit-some n (x / 2) (omega arith) (omega arith) in
+          (suc j, omega arith, bit-half j x ∙ b)
+    ]
+
 -- a bit as a number
 pub one-bit : (j x : ℕ) → when (bit j x) 1 ≡ x / 2 ^ j % 2
 one-bit j x =

@@ -1,6 +1,6 @@
--- The table that is drawn: each worth by those with one lot fewer (`trial-worth`), none above 9,999 (`trial-small`),
--- none below those (`trial-grows`); and the list of it, which has as many numbers as a sheet (`list-length`), and these
--- (`list-worth`, `list-small`). Assumes nothing.
+-- The table that is drawn: what the greatest worth with one lot fewer is (`fewer-upper`, `fewer-reached`); each worth
+-- by that (`trial-worth`), none above 9,999 (`trial-small`), none below those (`trial-grows`); and the list of it, which
+-- has as many numbers as a sheet (`list-length`), and these (`list-worth`, `list-small`). Assumes nothing.
 use mathlib.Core.Path.{_≡_, refl, sym, ap, _∙_}
 use mathlib.Core.Bool.{true}
 use mathlib.Core.List.{List}
@@ -9,18 +9,37 @@ use native.Mathlib.Omega.{arith}
 use lib.ListN.{length, take, getD}
 use Rattle.theory.specs.Sums.{when}
 use Rattle.theory.specs.Lists.{tabulate, upTo}
-use Rattle.theory.proofs.Lists.{most-upper, most-same, tabulate-at, tabulate-length, tabulate-take, tabulate-each}
+use Rattle.theory.proofs.Lists.{most-upper, most-same, most-reached, tabulate-at, tabulate-length, tabulate-take, tabulate-each}
 use Rattle.theory.proofs.Lists.{upTo-in}
 use Rattle.theory.proofs.Tests.{by-test}
 use Rattle.numbers.specs.Numbers.{bit}
 use Rattle.numbers.proofs.Numbers.{pow-some}
-use Rattle.numbers.proofs.Subsets.{bit-le}
+use Rattle.numbers.proofs.Subsets.{bit-le, bit-some}
 use Rattle.sheet.proofs.Lines.{count-below}
 use Rattle.writing.specs.Lists.{listed}
 use Rattle.trial.specs.Worths.{rowWorth, worthWithout, raisedBy, mostFewer, rowUpTo, drawFor, trialTable, trialAt}
 use Rattle.trial.specs.Worths.{trialList, mostWorths}
 use Rattle.trial.proofs.Rows.{row-last, row-kept, row-small}
 use Rattle.trial.proofs.Filling.{trial-place}
+
+-- the greatest worth with one lot fewer is that of some bundle, and none is greater
+module _ (n : ℕ) (v : ℕ → ℕ) (s : ℕ) where
+  without-is : (j : ℕ) → bit j s ≡ true → worthWithout v s j ≡ v (s - 2 ^ j)
+  without-is j t = ap (λ x. when x (v (s - 2 ^ j))) t
+
+  pub fewer-upper : (j : ℕ) → j < n → bit j s ≡ true → v (s - 2 ^ j) ≤ mostFewer n v s
+  fewer-upper j l t =
+      omega (arith, without-is j t, most-upper (worthWithout v s) (upTo-in n 0 {i = j} (omega arith)))
+
+  pub fewer-reached : 1 ≤ s → s < 2 ^ n → (j : ℕ) × (bit j s ≡ true) × (mostFewer n v s ≡ v (s - 2 ^ j))
+  fewer-reached some h =
+      let (k, l, b) = bit-some n s some h in
+      let (j, _, is) = most-reached (worthWithout v s) (upTo-in n 0 {i = k} (omega arith)) in
+      by-test (bit j s)
+      (λ t. (j, t, sym is ∙ without-is j t))
+      (λ t.
+      let none : worthWithout v s j ≡ 0 = ap (λ x. when x (v (s - 2 ^ j))) t in
+      (k, b, omega (arith, is, none, fewer-upper k l b)))
 
 module _ (N n top i : ℕ) where
   abbrev v : ℕ → ℕ
@@ -53,9 +72,7 @@ module _ (N n top i : ℕ) where
   pub trial-grows : (s j : ℕ) → j < n → bit j s ≡ true → v (s - 2 ^ j) ≤ v s
   trial-grows zero j l t = absurd (omega (arith, bit-le j 0 t, pow-some j))
   trial-grows (suc c) j l t =
-      let one : worthWithout v (suc c) j ≡ v (suc c - 2 ^ j) = ap (λ x. when x (v (suc c - 2 ^ j))) t in
-      let upper = most-upper (worthWithout v (suc c)) (upTo-in n 0 {i = j} (omega arith)) in
-      omega (arith, one, upper, trial-worth c, trial-small (suc c - 2 ^ j))
+      omega (arith, fewer-upper n v (suc c) j l t, trial-worth c, trial-small (suc c - 2 ^ j))
 
 pub most-length : (N n top : ℕ) → length (mostWorths N n top) ≡ 90
 unfolding mostWorths
