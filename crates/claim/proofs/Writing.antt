@@ -35,7 +35,7 @@ module _ (m n : ℕ) (l : List ℕ) where
   by-buyer i zero = refl
   by-buyer i (suc s) = let e : suc i - 1 ≡ i = omega arith in ap (λ k. getD l (k * (2 ^ n - 1) + s) 0) e
 
-  by-line : (i s : ℕ) → listed m n l i s ≡ tree.listed n l (i - 1) s
+  pub by-line : (i s : ℕ) → listed m n l i s ≡ tree.listed n l (i - 1) s
   by-line i zero = refl
   by-line i (suc s) = refl
 
@@ -62,7 +62,7 @@ module _ (m n : ℕ) (l : List ℕ) where
     number = writeFault m n l room .number
 
     -- the sheet ends where one more line would begin
-    ends : 13 + m * lineLength n ≡ 13 + ((suc m - 1) * (6 * (2 ^ n - 1) + 1) + 6 * (1 - 1))
+    pub ends : 13 + m * lineLength n ≡ 13 + ((suc m - 1) * (6 * (2 ^ n - 1) + 1) + 6 * (1 - 1))
     ends = let e : suc m - 1 ≡ m = omega arith in omega (arith, ap (λ x. x * lineLength n) e)
 
     unwritten : (j : ℕ) → j < 6 → ((i : ℕ) → i < j → ListQuestion m n l room i) → (ListQuestion m n l room j → ⊥) →

@@ -1,6 +1,7 @@
 -- The questions put to a trial's numbers: which of them gets the first "no" (`trial-first-no`, `trial-all-yes`,
--- `trial-numbers`); the place is 0 (`trial-place-none`); from 559 bytes on the buffer makes no difference
--- (`room-alike`), and numbers above 999,999 are refused as that is (`trial-capped`). Assumes nothing.
+-- `trial-numbers`); the number is at most 11 (`trial-range`), the place 0 (`trial-place-none`); from 559 bytes on the
+-- buffer makes no difference (`room-alike`, `never-eleven`), and numbers above 999,999 are refused as that is
+-- (`trial-capped`). Assumes nothing.
 use mathlib.Core.Path.{_≡_, refl, sym, ap, _∙_}
 use mathlib.Core.Logic.{_≢_, _↔_, _⊎_, inl, inr}
 use mathlib.Core.Bool.{Bool, true}
@@ -68,14 +69,20 @@ module _ (m n top room : ℕ) where
       elim (first-told number (from 0) (trialFault m n top room .number) trial-first)
       [ inl (z, _) ↦ inl z | inr (j, l, e, _) ↦ inr (j, l, e) ]
 
-  pub trial-place-none : trialFault m n top room .place ≡ 0
+  -- a fault has a number up to 11, and the place 0
+  fault-cases : (P : Fault → Type 0) → ((k : ℕ) → k ≤ 11 → P (fault k 0)) → P (trialFault m n top room)
   unfolding trialFault
-  trial-place-none =
-      let P : Fault → Type 0 = λ f. f .place ≡ 0 in
-      ask-cases P 3 (between 6 m) _ refl (λ _.
-      ask-cases P 4 (between 4 n) _ refl (λ _.
-      ask-cases P 7 (leb top 9999) _ refl (λ _.
-      ask-cases P 11 (leb (13 + m * lineLength n) room) _ refl (λ _. refl))))
+  fault-cases P h =
+      ask-cases P 3 (between 6 m) _ (h 3 (omega arith)) (λ _.
+      ask-cases P 4 (between 4 n) _ (h 4 (omega arith)) (λ _.
+      ask-cases P 7 (leb top 9999) _ (h 7 (omega arith)) (λ _.
+      ask-cases P 11 (leb (13 + m * lineLength n) room) _ (h 11 (omega arith)) (λ _. h 0 (omega arith)))))
+
+  pub trial-range : trialFault m n top room .number ≤ 11
+  trial-range = fault-cases (λ f. f .number ≤ 11) (λ k low. low)
+
+  pub trial-place-none : trialFault m n top room .place ≡ 0
+  trial-place-none = fault-cases (λ f. f .place ≡ 0) (λ k _. refl)
 
 -- two trials that are asked alike of the top and of the buffer, once buyers and lots are good
 module _ (m n top top′ room room′ : ℕ) where
