@@ -31,6 +31,11 @@
  *
  *      5  the list has not m * (2^n - 1) numbers
  *
+ * A trial sheet, which is drawn and then written, has questions 3, 4, 7 and 11 put, in this order,
+ * to the numbers that it is made of. `place` is always 0 here too, and question 7 is another:
+ *
+ *      7  the top is above 9,999
+ *
  * What a caller has to keep to:
  *
  * - Every pointer is valid for its length: `sheet` and `worths` for reading, `record` and `out` for
@@ -169,6 +174,16 @@ size_t hokewhuni_print_sale(const uint8_t *sheet, size_t sheet_length, uint8_t *
  * read by it and written from its worths in this order, has the same bytes again. */
 hokewhuni_wrote hokewhuni_write_sheet(uint32_t buyers, uint32_t lots, const uint32_t *worths,
                                       size_t worths_length, uint8_t *out, size_t out_length);
+
+/* Asks questions 3, 4, 7 and 11, writes a trial sheet to the front of `out`, and answers its
+ * length. Bytes of `out` after it keep their values; with a refusal all bytes do. Whoever is told
+ * the four numbers makes the same sheet again, byte for byte. The worths are drawn in the sheet's
+ * order by Marsaglia's xorwow (Xorshift RNGs, 2003), which each call starts anew: 100 draws for
+ * each one of `number` are thrown away, and then each worth is the greatest with one lot fewer,
+ * plus the remainder of the next draw by top + 1; or 9,999 if that is less. hokewhuni_read_worths
+ * answers these worths of what is written. */
+hokewhuni_wrote hokewhuni_trial_sheet(uint16_t number, uint32_t buyers, uint32_t lots, uint32_t top,
+                                      uint8_t *out, size_t out_length);
 
 #ifdef __cplusplus
 }

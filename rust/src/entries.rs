@@ -2,7 +2,7 @@
 
 use crate::answers::{flat, Demand, Direct, Field, Sale, Size, Table, Worths};
 use crate::raw;
-use crate::refusal::{Refusal, WriteRefusal};
+use crate::refusal::{Refusal, TrialRefusal, WriteRefusal};
 
 /// Reads the six columns of a sheet from offset `at`, any offset: a number right-justified after
 /// blanks. The next column is `at + 6`, also after a fault. With fewer than six bytes left the
@@ -24,9 +24,7 @@ pub fn read_worths(sheet: &[u8]) -> Result<Worths, Refusal> {
 /// Asks questions 1 to 8 and 10, and answers what a buyer demands at a table of prices, whatever
 /// they are.
 pub fn buyer_demand(sheet: &[u8], buyer: usize, prices: &Table) -> Result<Demand, Refusal> {
-    // No number that is too great for the library is a buyer's.
-    let buyer = u32::try_from(buyer).unwrap_or(u32::MAX);
-    Demand::new(&raw::buyer_demand(sheet, buyer, &flat(prices)))
+    Demand::new(&raw::buyer_demand(sheet, cut(buyer), &flat(prices)))
 }
 
 /// Asks questions 1 to 9, runs the sale by rounds, and answers it settled. The number of each
@@ -71,9 +69,38 @@ pub fn write_sheet(
     worths: &[u32],
     out: &mut [u8],
 ) -> Result<usize, WriteRefusal> {
-    // No number that is too great for the library is one of buyers or lots.
-    let [buyers, lots] = [buyers, lots].map(|count| u32::try_from(count).unwrap_or(u32::MAX));
-    let wrote = raw::write_sheet(buyers, lots, worths, out);
+    let wrote = raw::write_sheet(cut(buyers), cut(lots), worths, out);
     WriteRefusal::check(wrote.number)?;
     Ok(wrote.length as usize)
+}
+
+/// Asks questions 3, 4, 7 and 11, writes a trial sheet to the front of `out`, and answers its
+/// length. Bytes of `out` after it keep their values; with a refusal all bytes do. Whoever is told
+/// the four numbers makes the same sheet again, byte for byte. The worths are drawn in the sheet's
+/// order by Marsaglia's xorwow (Xorshift RNGs, 2003), which each call starts anew: 100 draws for
+/// each one of `number` are thrown away, and then each worth is the greatest with one lot fewer,
+/// plus the remainder of the next draw by `top + 1`; or 9,999 if that is less. [`read_worths`]
+/// answers these worths of what is written.
+///
+/// ```
+/// let mut out = [b'.'; 54];
+/// assert_eq!(hokewhuni::trial_sheet(1, 2, 2, 5, &mut out), Ok(51));
+/// assert_eq!(&out, b"     2     2\n     4     2     7\n     1     4     9\n...");
+/// ```
+pub fn trial_sheet(
+    number: u16,
+    buyers: usize,
+    lots: usize,
+    top: usize,
+    out: &mut [u8],
+) -> Result<usize, TrialRefusal> {
+    let wrote = raw::trial_sheet(number, cut(buyers), cut(lots), cut(top), out);
+    TrialRefusal::check(wrote.number)?;
+    Ok(wrote.length as usize)
+}
+
+/// The number, or the library's greatest in place of one that is beyond it. No buyer has that
+/// number, and it is too great for one of buyers or lots and for a top, too.
+fn cut(number: usize) -> u32 {
+    u32::try_from(number).unwrap_or(u32::MAX)
 }

@@ -42,6 +42,21 @@
 //! # Ok::<(), WriteRefusal>(())
 //! ```
 //!
+//! A trial sheet is drawn, and four numbers make it again: a sheet number, buyers, lots and a top,
+//! which is the most that a bundle is worth above the same with one lot fewer:
+//!
+//! ```
+//! use hokewhuni::TrialRefusal;
+//!
+//! let sheet = hokewhuni::drawn_sheet(1, 2, 2, 5)?;
+//! assert_eq!(sheet, b"     2     2\n     4     2     7\n     1     4     9\n");
+//!
+//! let refusal = hokewhuni::drawn_sheet(1, 2, 2, 10_000).unwrap_err();
+//! assert_eq!(refusal, TrialRefusal::TopTooHigh);
+//! assert_eq!(refusal.to_string(), "the top is above 9,999");
+//! # Ok::<(), TrialRefusal>(())
+//! ```
+//!
 //! No function keeps anything, so that calls may run at once on several threads.
 //!
 //! The library is for x86-64 Linux. The build takes it from the folder that `HOKEWHUNI_LIB` names,
@@ -60,10 +75,10 @@ mod refusal;
 pub use answers::{Demand, Direct, Field, Sale, Size, Table, Worths};
 pub use entries::{
     buyer_demand, direct_way, print_sale, read_field, read_sheet, read_worths, run_sale,
-    write_sheet,
+    trial_sheet, write_sheet,
 };
 pub use raw::{PRINT_BYTES, RECORD_BYTES, SHEET_BYTES};
-pub use refusal::{Refusal, WriteRefusal};
+pub use refusal::{Refusal, TrialRefusal, WriteRefusal};
 
 /// Runs the sale as [`run_sale`] does, with a record that is long enough for every sheet, and
 /// answers the bytes recorded too, one for each round.
@@ -95,8 +110,23 @@ pub fn printed_sale(sheet: &[u8]) -> Vec<u8> {
 
 /// The sheet that [`write_sheet`] writes. It is never refused for want of room.
 pub fn written_sheet(buyers: usize, lots: usize, worths: &[u32]) -> Result<Vec<u8>, WriteRefusal> {
+    whole(|out| write_sheet(buyers, lots, worths, out))
+}
+
+/// The sheet that [`trial_sheet`] writes. It is never refused for want of room.
+pub fn drawn_sheet(
+    number: u16,
+    buyers: usize,
+    lots: usize,
+    top: usize,
+) -> Result<Vec<u8>, TrialRefusal> {
+    whole(|out| trial_sheet(number, buyers, lots, top, out))
+}
+
+/// What is written of a sheet, where there is room for every one.
+fn whole<E>(write: impl FnOnce(&mut [u8]) -> Result<usize, E>) -> Result<Vec<u8>, E> {
     let mut out = vec![0; SHEET_BYTES];
-    let length = write_sheet(buyers, lots, worths, &mut out)?;
+    let length = write(&mut out)?;
     out.truncate(length);
     Ok(out)
 }

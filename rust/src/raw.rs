@@ -3,7 +3,7 @@
 //!
 //! `number` and `place` of an answer are those of a refusal, and every other number is 0 then;
 //! they are 0 if nothing is refused. [`crate::Refusal`] says what the numbers mean, of writing
-//! [`crate::WriteRefusal`].
+//! [`crate::WriteRefusal`], of a trial sheet [`crate::TrialRefusal`].
 
 /// No sheet of this many bytes or more is accepted: a longer file may be cut here, and gets the
 /// same refusal. So this many bytes have room for every sheet that is written, of which the longest
@@ -162,6 +162,14 @@ unsafe extern "C" {
         out: *mut u8,
         out_length: usize,
     ) -> Wrote;
+    fn hokewhuni_trial_sheet(
+        number: u16,
+        buyers: u32,
+        lots: u32,
+        top: u32,
+        out: *mut u8,
+        out_length: usize,
+    ) -> Wrote;
 }
 
 /// As [`crate::read_field`].
@@ -222,4 +230,10 @@ pub fn write_sheet(buyers: u32, lots: u32, worths: &[u32], out: &mut [u8]) -> Wr
     let (to, length) = (out.as_mut_ptr(), out.len());
     // SAFETY: the pointers are the slices', each with its length, and `out` is lent by `&mut`.
     unsafe { hokewhuni_write_sheet(buyers, lots, worths.as_ptr(), worths.len(), to, length) }
+}
+
+/// As [`crate::trial_sheet`].
+pub fn trial_sheet(number: u16, buyers: u32, lots: u32, top: u32, out: &mut [u8]) -> Wrote {
+    // SAFETY: the pointer is the slice's, with its length, and it is lent by `&mut`.
+    unsafe { hokewhuni_trial_sheet(number, buyers, lots, top, out.as_mut_ptr(), out.len()) }
 }

@@ -3,6 +3,15 @@
 use std::error::Error;
 use std::fmt::{self, Display, Formatter};
 
+// What is said of questions that are put to sheets, lists and trial sheets.
+const BUYER_COUNT: &str = "the number of buyers is not 1 to 6";
+const LOT_COUNT: &str = "the number of lots is not 1 to 4";
+const WORTH_TOO_HIGH: &str = "a worth is above 9,999";
+const WORTH_FALLS: &str =
+    "a bundle of two or more lots is worth less than the same with one lot fewer";
+const OUT_TOO_SHORT: &str =
+    "`out` has fewer than 13 + m * (6 * (2^n - 1) + 1) bytes, with m buyers and n lots";
+
 /// Why a sheet is refused: the first question that gets a no. The questions are asked in this
 /// order; m and n are the sheet's numbers of buyers and lots. `place` is the offset in bytes of the
 /// first faulty field or line end.
@@ -95,16 +104,14 @@ impl Display for Refusal {
             Refusal::FirstLine => {
                 "the first line is not two good fields and a line end at offset 12"
             }
-            Refusal::BuyerCount => "the number of buyers is not 1 to 6",
-            Refusal::LotCount => "the number of lots is not 1 to 4",
+            Refusal::BuyerCount => BUYER_COUNT,
+            Refusal::LotCount => LOT_COUNT,
             Refusal::WrongLength => {
                 "the length is not 13 + m * (6 * (2^n - 1) + 1), with m buyers and n lots"
             }
             Refusal::Fault { .. } => "a later field or line end is not good",
-            Refusal::WorthTooHigh { .. } => "a worth is above 9,999",
-            Refusal::WorthFalls { .. } => {
-                "a bundle of two or more lots is worth less than the same with one lot fewer"
-            }
+            Refusal::WorthTooHigh { .. } => WORTH_TOO_HIGH,
+            Refusal::WorthFalls { .. } => WORTH_FALLS,
             Refusal::RecordTooShort => {
                 "the record has fewer bytes than the sum, over buyers, of the worth of all lots \
                  together"
@@ -171,20 +178,71 @@ impl WriteRefusal {
 impl Display for WriteRefusal {
     fn fmt(&self, to: &mut Formatter) -> fmt::Result {
         to.write_str(match self {
-            WriteRefusal::BuyerCount => "the number of buyers is not 1 to 6",
-            WriteRefusal::LotCount => "the number of lots is not 1 to 4",
+            WriteRefusal::BuyerCount => BUYER_COUNT,
+            WriteRefusal::LotCount => LOT_COUNT,
             WriteRefusal::WrongLength => {
                 "the list has not m * (2^n - 1) numbers, with m buyers and n lots"
             }
-            WriteRefusal::WorthTooHigh => "a worth is above 9,999",
-            WriteRefusal::WorthFalls => {
-                "a bundle of two or more lots is worth less than the same with one lot fewer"
-            }
-            WriteRefusal::OutTooShort => {
-                "`out` has fewer than 13 + m * (6 * (2^n - 1) + 1) bytes, with m buyers and n lots"
-            }
+            WriteRefusal::WorthTooHigh => WORTH_TOO_HIGH,
+            WriteRefusal::WorthFalls => WORTH_FALLS,
+            WriteRefusal::OutTooShort => OUT_TOO_SHORT,
         })
     }
 }
 
 impl Error for WriteRefusal {}
+
+/// Why a trial sheet is not written: the first question that gets a no. The questions are asked in
+/// this order; m and n are the numbers of buyers and lots. There is no place.
+#[derive(Clone, Copy, Debug, PartialEq, Eq, Hash)]
+#[non_exhaustive]
+pub enum TrialRefusal {
+    /// 3: the number of buyers is not 1 to 6.
+    BuyerCount,
+    /// 4: the number of lots is not 1 to 4.
+    LotCount,
+    /// 7: the top is above 9,999.
+    TopTooHigh,
+    /// 11: `out` has fewer than 13 + m × (6 × (2^n − 1) + 1) bytes.
+    OutTooShort,
+}
+
+impl TrialRefusal {
+    /// Refuses with an answer's number, or not with number 0.
+    pub(crate) fn check(number: u8) -> Result<(), Self> {
+        Err(match number {
+            0 => return Ok(()),
+            3 => TrialRefusal::BuyerCount,
+            4 => TrialRefusal::LotCount,
+            7 => TrialRefusal::TopTooHigh,
+            11 => TrialRefusal::OutTooShort,
+            _ => panic!(
+                "libhokewhuni.a refused with {number}, which is no question of a trial sheet"
+            ),
+        })
+    }
+
+    /// The question's number: 3, 4, 7 or 11.
+    pub fn number(self) -> u8 {
+        match self {
+            TrialRefusal::BuyerCount => 3,
+            TrialRefusal::LotCount => 4,
+            TrialRefusal::TopTooHigh => 7,
+            TrialRefusal::OutTooShort => 11,
+        }
+    }
+}
+
+/// What the number means in words.
+impl Display for TrialRefusal {
+    fn fmt(&self, to: &mut Formatter) -> fmt::Result {
+        to.write_str(match self {
+            TrialRefusal::BuyerCount => BUYER_COUNT,
+            TrialRefusal::LotCount => LOT_COUNT,
+            TrialRefusal::TopTooHigh => "the top is above 9,999",
+            TrialRefusal::OutTooShort => OUT_TOO_SHORT,
+        })
+    }
+}
+
+impl Error for TrialRefusal {}

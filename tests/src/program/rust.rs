@@ -2,6 +2,7 @@
 //! the header's, its functions with a record of their own, its own tests, how it is built without
 //! the library, and its example.
 
+use std::collections::BTreeMap;
 use std::env;
 use std::fs::{self, File, OpenOptions};
 use std::io;
@@ -10,7 +11,7 @@ use std::process::Command;
 use std::time::Duration;
 
 use hokewhuni::Refusal::{self, *};
-use hokewhuni::WriteRefusal;
+use hokewhuni::{TrialRefusal, WriteRefusal};
 
 use super::examples::examples;
 use super::header::LONGEST_PRINT;
@@ -60,6 +61,17 @@ const WRITE_REFUSALS: [(u8, WriteRefusal); 6] = [
     (11, WriteRefusal::OutTooShort),
 ];
 
+/// Those of a trial sheet, with their numbers.
+const TRIAL_REFUSALS: [(u8, TrialRefusal); 4] = [
+    (3, TrialRefusal::BuyerCount),
+    (4, TrialRefusal::LotCount),
+    (7, TrialRefusal::TopTooHigh),
+    (11, TrialRefusal::OutTooShort),
+];
+
+/// What numbers mean in a list of the header.
+type Meanings = BTreeMap<u8, String>;
+
 pub fn compare(tally: &mut Tally, generator: &mut Generator) {
     tally.group("the Rust crate", |tally| {
         tally.succeeds("the crate's numbers", numbers());
@@ -93,55 +105,64 @@ fn numbers() -> Result<(), String> {
     (numbers == expected).then_some(()).ok_or_else(wrong)
 }
 
-/// Each refusal says what the header says of its number, and may say more. What it says of a number
-/// last is of writing.
+/// Each refusal says what the header says of its number, and may say more. The header has a list for
+/// all questions, one for those that are others of writing, and one for those of a trial sheet.
 fn words() -> Result<(), String> {
     let header = in_repository("include/hokewhuni.h");
-    let meanings = meanings(&told(fs::read_to_string(header))?);
-    let check = |number: u8, (says, told): (String, u8), meaning: Option<&(u8, String)>| {
-        let meaning = meaning.map_or("", |(_, meaning)| meaning);
+    let lists = meanings(&told(fs::read_to_string(header))?);
+    let [all, writing, trials] = &lists[..] else {
+        return Err(format!("the header has {} lists of meanings", lists.len()));
+    };
+    let check = |number: u8, (says, told): (String, u8), others: &Meanings| {
+        let meaning = others.get(&number).or(all.get(&number));
+        let meaning = meaning.map_or("", String::as_str);
         let right = told == number && !meaning.is_empty() && says.starts_with(meaning);
         let wrong = || format!("{told}: \"{says}\" where {number} means \"{meaning}\"");
         right.then_some(()).ok_or_else(wrong)
     };
     for (number, refusal) in (1..).zip(REFUSALS) {
-        let meaning = meanings.iter().find(|(of, _)| *of == number);
-        check(number, (refusal.to_string(), refusal.number()), meaning)?;
+        check(number, (refusal.to_string(), refusal.number()), all)?;
     }
     for (number, refusal) in WRITE_REFUSALS {
-        let meaning = meanings.iter().rfind(|(of, _)| *of == number);
-        check(number, (refusal.to_string(), refusal.number()), meaning)?;
+        check(number, (refusal.to_string(), refusal.number()), writing)?;
+    }
+    for (number, refusal) in TRIAL_REFUSALS {
+        check(number, (refusal.to_string(), refusal.number()), trials)?;
     }
     Ok(())
 }
 
-/// The meanings of numbers in the header, in its order: each from its number on to the next, or to
-/// an empty line, without what it is only of.
-fn meanings(header: &str) -> Vec<(u8, String)> {
-    let mut meanings: Vec<(u8, String)> = Vec::new();
-    let mut goes_on = false;
+/// The header's lists, in its order: lines that begin with a number, each with those after it up to
+/// the next. An empty line ends a list. What a number is only of is left out.
+fn meanings(header: &str) -> Vec<Meanings> {
     let lines = header
         .lines()
         .map(|line| line.trim_start_matches(" *").trim());
-    for line in lines {
-        let begun = line.split_once("  ").unwrap_or_default();
-        match (begun.0.parse(), meanings.last_mut()) {
-            (Ok(number), _) => {
-                meanings.push((number, String::from(begun.1)));
-                goes_on = true;
-            }
-            (_, Some((_, meaning))) if goes_on && !line.is_empty() => {
-                *meaning += &format!(" {line}");
-            }
-            _ => goes_on = false,
-        }
-    }
-    let only = |meaning: String| match meaning.strip_prefix("only of ") {
-        Some(rest) => rest.split_once(": ").unwrap_or_default().1.to_owned(),
-        None => meaning,
+    let lines: Vec<&str> = lines.collect();
+    let paragraphs = lines.split(|line| line.is_empty());
+    let lists = paragraphs.map(|lines| list(lines).collect::<Meanings>());
+    lists.filter(|list| !list.is_empty()).collect()
+}
+
+/// The numbers and meanings of a paragraph's lines.
+fn list<'a>(lines: &'a [&str]) -> impl Iterator<Item = (u8, String)> + 'a {
+    let begins = |line: &str| {
+        let (number, meaning) = line.split_once("  ")?;
+        Some((number.parse().ok()?, meaning.to_owned()))
     };
-    let meanings = meanings.into_iter();
-    meanings.map(|(of, meaning)| (of, only(meaning))).collect()
+    let items = lines.chunk_by(move |_, line| begins(line).is_none());
+    items.filter_map(move |item| {
+        let (number, meaning) = begins(item[0])?;
+        let whole = [&[meaning.as_str()], &item[1..]].concat().join(" ");
+        Some((number, only(&whole)))
+    })
+}
+
+/// A meaning without what it is only of.
+fn only(meaning: &str) -> String {
+    let of = meaning.strip_prefix("only of ");
+    let rest = of.map(|rest| rest.split_once(": ").unwrap_or_default().1);
+    rest.unwrap_or(meaning).to_owned()
 }
 
 /// Where the library is not found, the build says what to do.
