@@ -9,4 +9,6 @@ pub mod print;
 pub mod round;
 pub mod sale;
 pub mod sheet;
+pub mod trial;
 pub mod writing;
+pub mod xorwow;

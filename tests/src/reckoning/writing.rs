@@ -36,8 +36,15 @@ impl List {
 
 /// The sheet, in a buffer that has room for every one (rule 11.9).
 pub fn written_sheet(list: &List) -> Result<Vec<u8>, Refusal> {
+    whole(|out| write_sheet(list, out))
+}
+
+/// What is written into a buffer that has room for every sheet.
+pub(super) fn whole(
+    write: impl FnOnce(&mut [u8]) -> Result<usize, Refusal>,
+) -> Result<Vec<u8>, Refusal> {
     let mut out = vec![0; length(MOST_BUYERS, MOST_LOTS)];
-    let length = write_sheet(list, &mut out)?;
+    let length = write(&mut out)?;
     out.truncate(length);
     Ok(out)
 }
@@ -45,7 +52,7 @@ pub fn written_sheet(list: &List) -> Result<Vec<u8>, Refusal> {
 /// Writes the sheet to the front of a buffer, and answers its length (rule 11.5). Later bytes of
 /// the buffer stay; after a no all of them do. Question 11 is the last (rules 11.3 and 11.4).
 pub fn write_sheet(list: &List, out: &mut [u8]) -> Result<usize, Refusal> {
-    let (buyers, lots) = size(list)?;
+    let (buyers, lots) = size(list.buyers, list.lots)?;
     ask_worths(&list.worths, buyers, lots)?;
     let length = length(buyers, lots);
     if out.len() < length {
@@ -55,9 +62,9 @@ pub fn write_sheet(list: &List, out: &mut [u8]) -> Result<usize, Refusal> {
     Ok(length)
 }
 
-/// Questions 3 and 4 (rule 11.4): the numbers of buyers and lots.
-fn size(list: &List) -> Result<(usize, usize), Refusal> {
-    let (buyers, lots) = (list.buyers as usize, list.lots as usize);
+/// Questions 3 and 4 (rules 11.4 and 12.5): the numbers of buyers and lots.
+pub(super) fn size(buyers: u32, lots: u32) -> Result<(usize, usize), Refusal> {
+    let (buyers, lots) = (buyers as usize, lots as usize);
     if !(1..=MOST_BUYERS).contains(&buyers) {
         return refuse(3, 0);
     }
