@@ -11,4 +11,5 @@ pub mod reckoning;
 pub mod sales;
 pub mod sheets;
 pub mod tally;
+pub mod trials;
 pub mod writing;

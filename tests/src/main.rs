@@ -8,6 +8,7 @@ use std::process::ExitCode;
 use comparison::halves::compare;
 use comparison::sales;
 use comparison::sheets;
+use comparison::trials;
 use comparison::writing;
 
 fn main() -> ExitCode {
@@ -16,10 +17,12 @@ fn main() -> ExitCode {
             sheets::compare(tally, generator);
             sales::compare(tally, generator);
             writing::compare(tally, generator);
+            trials::compare(tally, generator);
         },
         |tally, generator| {
             sales::compare_direct(tally, generator);
             writing::compare_round_trips(tally, generator);
+            trials::compare_sizes(tally, generator);
         },
     )
 }

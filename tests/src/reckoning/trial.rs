@@ -1,7 +1,9 @@
 //! Trial sheets: the questions put to the numbers of one, and its worths. Written from the rules
 //! alone (docs/RULES.md), never from the Rattle code; the comments name the rules that are met.
 
-use super::sheet::{bundles, parts, refuse, Refusal, Sheet, Table, GREATEST_WORTH, MOST_BUNDLES};
+use super::sheet::{
+    bundles, parts, refuse, Answer, Refusal, Sheet, Table, GREATEST_WORTH, MOST_BUNDLES,
+};
 use super::writing::{size, whole, write_sheet, List};
 use super::xorwow::Xorwow;
 
@@ -19,17 +21,20 @@ pub struct Trial {
 
 /// The trial sheet, in a buffer that has room for every sheet (rule 12.9).
 pub fn drawn_sheet(trial: &Trial) -> Result<Vec<u8>, Refusal> {
-    whole(|out| trial_sheet(trial, out))
+    whole(|out| write_drawn(&draw_sheet(trial), out))
 }
 
-/// Writes the trial sheet to the front of a buffer, and answers its length (rule 12.6). Question 11
-/// is the last, and no other that a list is asked gets a no (rules 12.5 and 12.7).
-pub fn trial_sheet(trial: &Trial, out: &mut [u8]) -> Result<usize, Refusal> {
-    write_sheet(&List::of(&draw_sheet(trial)?), out)
+/// Writes the sheet that is drawn to the front of a buffer, and answers its length (rule 12.6).
+/// Question 11 is the last; no other that a list is asked gets a no (rules 12.5 and 12.7).
+pub fn write_drawn(drawn: &Answer, out: &mut [u8]) -> Result<usize, Refusal> {
+    match drawn {
+        Ok(sheet) => write_sheet(&List::of(sheet), out),
+        Err(refusal) => Err(refusal.clone()),
+    }
 }
 
 /// Questions 3, 4 and 7 (rule 12.5), and the sheet that is drawn.
-pub fn draw_sheet(trial: &Trial) -> Result<Sheet, Refusal> {
+pub fn draw_sheet(trial: &Trial) -> Answer {
     let (buyers, lots) = size(trial.buyers, trial.lots)?;
     if trial.top > u32::from(GREATEST_WORTH) {
         return refuse(7, 0);

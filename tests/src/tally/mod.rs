@@ -15,11 +15,14 @@ mod prints;
 mod processes;
 mod safe;
 mod sales;
+mod trials;
 mod writing;
+mod written;
 
 pub use direct::Pair;
 pub use processes::End;
 pub use sales::Told;
+pub use written::Written;
 
 /// The most differences that a tally reports.
 const SHOWN: usize = 10;

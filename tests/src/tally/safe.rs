@@ -5,7 +5,7 @@ use std::array::from_fn;
 use std::fmt::{Debug, Display};
 
 use hokewhuni::Refusal::{self, *};
-use hokewhuni::{Table, WriteRefusal};
+use hokewhuni::{Table, TrialRefusal, WriteRefusal};
 
 use super::difference;
 use crate::reckoning::demand::Demand;
@@ -61,6 +61,16 @@ pub fn write_refusal(refusal: &sheet::Refusal) -> WriteRefusal {
         8 => WriteRefusal::WorthFalls,
         11 => WriteRefusal::OutTooShort,
         number => panic!("no question of writing has number {number}"),
+    }
+}
+
+pub fn trial_refusal(refusal: &sheet::Refusal) -> TrialRefusal {
+    match refusal.number {
+        3 => TrialRefusal::BuyerCount,
+        4 => TrialRefusal::LotCount,
+        7 => TrialRefusal::TopTooHigh,
+        11 => TrialRefusal::OutTooShort,
+        number => panic!("no question of a trial sheet has number {number}"),
     }
 }
 

@@ -12,7 +12,7 @@ use crate::reckoning::sale::{run_sale, Closing, Sale};
 use crate::reckoning::sheet::Refusal;
 
 /// From this number on, a number of the crate's is beyond the library's: it is that of no buyer,
-/// and nobody has so many buyers or lots.
+/// and nobody has so many buyers or lots, or such a top.
 pub(super) const BEYOND: usize = 1 << 32;
 
 /// What a settled sale comes to: the bytes recorded, one for each round, and the closing.
@@ -155,7 +155,7 @@ fn safe_differences(
 
 /// What is printed of a settled sale that breaks rule 5.13: owners and payments are those of the
 /// direct way.
-fn unlike(sale: &raw::Sale, direct: &raw::Direct) -> Option<String> {
+pub(super) fn unlike(sale: &raw::Sale, direct: &raw::Direct) -> Option<String> {
     if sale.number != 0 {
         return None;
     }

@@ -1,20 +1,20 @@
 //! The comparison of written sheets and their buffers, and of sheets that are written and read.
 
-use hokewhuni::{raw, WriteRefusal};
+use hokewhuni::raw;
 
 use super::lent::{inside, lent_difference, within_margins};
 use super::sales::BEYOND;
+use super::written::{Reckoned, Written};
 use super::{bare, difference, safe, text_difference, Tally};
 use crate::generator::bytes_of;
-use crate::reckoning::sheet::{refuse, Refusal, Sheet, MOST_BUYERS};
+use crate::reckoning::sheet::{refuse, Sheet, MOST_BUYERS};
 use crate::reckoning::writing::{write_sheet, written_sheet, List};
 
 /// What stands on either side of a list that is lent. These are no worths, so that it shows if they
 /// are read.
 const MARGIN: [u32; 2] = [u32::MAX; 2];
 
-/// The sheet that is written, or why it is not.
-type Written = Result<Vec<u8>, Refusal>;
+const ENTRY: &str = "write_sheet";
 
 impl Tally {
     /// Compares the whole answers to a list that is to be written, and the whole buffers after it.
@@ -49,9 +49,9 @@ impl Tally {
             } else {
                 3
             };
-            let write = |out: &mut [u8]| hokewhuni::write_sheet(buyers, lots, &list.worths, out);
-            let left = within_margins(buffer);
-            let differences = crate_differences(write, buffer, &refuse(number, 0), &left);
+            let reckoned = Reckoned::new(ENTRY, buffer, |_| refuse(number, 0));
+            let differences = reckoned
+                .crate_differences(|out| hokewhuni::write_sheet(buyers, lots, &list.worths, out));
             self.count_list(list, &differences);
         }
     }
@@ -132,53 +132,14 @@ fn known_differences(list: &List, buffer: &[u8], known: &Written) -> Vec<String>
 
 /// What the Rust reckoning writes of a list, and its differences from the library.
 fn compare_writing(list: &List, buffer: &[u8]) -> (Written, Vec<String>) {
-    let mut reckoned = buffer.to_vec();
-    let answer = write_sheet(list, &mut reckoned);
-    let left = within_margins(&reckoned);
+    let reckoned = Reckoned::new(ENTRY, buffer, |out| write_sheet(list, out));
     let (buyers, lots) = (list.buyers, list.lots);
     let lent = [&MARGIN, &list.worths[..], &MARGIN].concat();
     let worths = &lent[MARGIN.len()..][..list.worths.len()];
-
-    let mut out = within_margins(buffer);
-    let wrote = raw::write_sheet(buyers, lots, worths, inside(&mut out));
-    let mut differences = Vec::from_iter(difference(
-        format_args!("write_sheet into {} bytes", buffer.len()),
-        ("library", &wrote),
-        ("Rust", &bare::wrote(&answer)),
-    ));
-    differences.extend(lent_difference(
-        "buffer",
-        ("library", &out),
-        ("Rust", &left),
-    ));
-
-    let write =
-        |out: &mut [u8]| hokewhuni::write_sheet(buyers as usize, lots as usize, worths, out);
-    differences.extend(crate_differences(write, buffer, &answer, &left));
-    let written = answer.map(|length| reckoned[..length].to_vec());
-    (written, differences)
-}
-
-/// What is printed of the crate's writing, into a buffer of its own, where it differs from the Rust
-/// reckoning's, or the buffer from what has to be left in it.
-fn crate_differences(
-    write: impl FnOnce(&mut [u8]) -> Result<usize, WriteRefusal>,
-    buffer: &[u8],
-    reckoned: &Result<usize, Refusal>,
-    left: &[u8],
-) -> Vec<String> {
-    let mut out = within_margins(buffer);
-    let answer = write(inside(&mut out));
-    let expected = reckoned.as_ref().copied().map_err(safe::write_refusal);
-    let told = answer.err().map(WriteRefusal::number);
-    let number = reckoned.as_ref().err().map(|refusal| refusal.number);
-    let what = format_args!("write_sheet into {} bytes", buffer.len());
-    [
-        difference(what, ("crate", &answer), ("Rust", &expected)),
-        difference("number", ("crate", &told), ("Rust", &number)),
-        lent_difference("buffer", ("crate", &out), ("Rust", left)),
-    ]
-    .into_iter()
-    .flatten()
-    .collect()
+    let mut differences =
+        reckoned.library_differences(|out| raw::write_sheet(buyers, lots, worths, out));
+    differences.extend(reckoned.crate_differences(|out| {
+        hokewhuni::write_sheet(buyers as usize, lots as usize, worths, out)
+    }));
+    (reckoned.written(), differences)
 }

@@ -3,9 +3,9 @@
 
 use super::LONGEST;
 use crate::generator::{bytes_of, sizes, Generator};
-use crate::reckoning::sheet::Refusal;
+use crate::reckoning::sheet::refuse;
 use crate::reckoning::writing::List;
-use crate::tally::Tally;
+use crate::tally::{Tally, Written};
 
 /// Lengths that would be too short if they were narrowed to 16 bits.
 const MORE: [usize; 2] = [1 << 16, (1 << 16) + 13];
@@ -29,32 +29,34 @@ pub fn compare(tally: &mut Tally, generator: &mut Generator) {
         for (buyers, lots) in sizes() {
             for _ in 0..DRAWN {
                 let sheet = generator.monotone(buyers, lots);
-                let (list, bytes) = (List::of(&sheet), bytes_of(&sheet));
-                every_length(tally, generator, &list, &Ok(bytes));
+                write(tally, generator, &List::of(&sheet), &Ok(bytes_of(&sheet)));
             }
         }
         for (buyers, lots, worths, number) in REFUSED {
             let list = List::new(buyers, lots, worths);
-            every_length(tally, generator, &list, &Err(Refusal { number, place: 0 }));
+            write(tally, generator, &list, &refuse(number, 0));
         }
     });
 }
 
-/// Writes a list into buffers of every length; what would be written is known. Question 11 comes
-/// after all others (rules 11.3 and 11.4).
-fn every_length(
-    tally: &mut Tally,
-    generator: &mut Generator,
-    list: &List,
-    known: &Result<Vec<u8>, Refusal>,
-) {
-    let too_short = Err(Refusal {
-        number: 11,
-        place: 0,
+/// Writes a list into buffers of every length; what would be written is known.
+fn write(tally: &mut Tally, generator: &mut Generator, list: &List, known: &Written) {
+    every_length(generator, known, |buffer, known| {
+        tally.known_writing(list, buffer, known);
     });
+}
+
+/// Buffers of every length, each with what is known of writing into it; the sheet, or the refusal,
+/// is known. Question 11 comes after all others (rules 11.3, 11.4 and 12.5).
+pub fn every_length(
+    generator: &mut Generator,
+    known: &Written,
+    mut compare: impl FnMut(&[u8], &Written),
+) {
+    let too_short = refuse(11, 0);
     for length in (0..=LONGEST).chain(MORE) {
         let fits = known.as_ref().map_or(true, |sheet| sheet.len() <= length);
         let known = if fits { known } else { &too_short };
-        tally.known_writing(list, &generator.bytes(length), known);
+        compare(&generator.bytes(length), known);
     }
 }

@@ -6,18 +6,18 @@ use crate::reckoning::sheet::Refusal;
 use crate::reckoning::writing::List;
 use crate::tally::Tally;
 
-mod buffers;
+pub mod buffers;
 mod document;
 mod faults;
 mod lengths;
 mod parts;
 pub mod random;
 mod round_trips;
-mod sizes;
+pub mod sizes;
 mod worths;
 
 /// Buffers of this many bytes have room for every sheet, and some to spare.
-const LONGEST: usize = 600;
+pub const LONGEST: usize = 600;
 
 /// Above the greatest worth; some would be worths if they were narrowed to 16 or 24 bits, or cut to
 /// six or to four digits (rule 11.4).

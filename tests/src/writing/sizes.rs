@@ -11,7 +11,7 @@ use crate::tally::Tally;
 
 /// Those in range and next to it, and those that would be in range if they were narrowed, or if
 /// 2^n were reckoned with a part of n.
-const COUNTS: [u32; 28] = [
+pub const COUNTS: [u32; 28] = [
     0,
     1,
     2,
