@@ -17,12 +17,12 @@ fn main() -> ExitCode {
             sheets::compare(tally, generator);
             sales::compare(tally, generator);
             writing::compare(tally, generator);
-            trials::compare(tally, generator);
+            trials::compare_sizes(tally, generator);
         },
         |tally, generator| {
             sales::compare_direct(tally, generator);
             writing::compare_round_trips(tally, generator);
-            trials::compare_sizes(tally, generator);
+            trials::compare(tally, generator);
         },
     )
 }

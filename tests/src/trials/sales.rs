@@ -1,5 +1,4 @@
-//! The sales of trial sheets (rule 12.7): of every size with small tops, and a few with the
-//! greatest.
+//! The sales of trial sheets of every size (rule 12.7): most with small tops, some with great ones.
 
 use super::trial;
 use crate::generator::{sizes, Generator};
@@ -8,29 +7,29 @@ use crate::reckoning::sale::record_needed;
 use crate::reckoning::trial::{draw_sheet, Trial};
 use crate::tally::Tally;
 
-/// Tops of the sheets of every size.
-const TOPS: [u32; 6] = [0, 1, 2, 5, 12, 30];
-
-/// Sheets of each size and top.
-const DRAWN: usize = 35;
+/// Tops, with the sheets of each size: some 5,000 in all. Sales with great tops are the longest.
+const TOPS: [(u32, usize); 8] = [
+    (0, 34),
+    (1, 34),
+    (2, 34),
+    (5, 34),
+    (12, 34),
+    (100, 34),
+    (4_000, 3),
+    (9_999, 3),
+];
 
 /// Sheet numbers are below this.
 const NUMBERS: usize = 200;
 
-/// Sizes of sheets with the greatest top, whose sales take up to some 30,000 rounds.
-const FULL: [(usize, usize); 6] = [(1, 4), (2, 1), (3, 1), (6, 1), (2, 2), (6, 4)];
-
 pub fn compare(tally: &mut Tally, generator: &mut Generator) {
     tally.group("sales of trial sheets", |tally| {
         for size in sizes() {
-            for top in TOPS {
-                for _ in 0..DRAWN {
+            for (top, drawn) in TOPS {
+                for _ in 0..drawn {
                     sell(tally, generator, size, top);
                 }
             }
-        }
-        for size in FULL {
-            sell(tally, generator, size, 9_999);
         }
     });
 }
