@@ -1,6 +1,6 @@
 /* Prints the header's constants, and every number of each call's answer to the sheet on standard
- * input, which is written from its worths too; then the recorded sets, the printed sale and the
- * written sheet. */
+ * input, which is written from its worths too; then the recorded sets, the printed sale, the
+ * written sheet, and a trial sheet of the same size. */
 #include <stdio.h>
 
 #include "hokewhuni.h"
@@ -13,6 +13,10 @@
 
 /* One byte less than the shortest sheet has. */
 #define TOO_SHORT 19
+
+/* The number of a trial sheet, less the length of the sheet, and its top. */
+#define NUMBER 40000
+#define TOP 300
 
 static uint8_t record[HOKEWHUNI_RECORD_BYTES];
 
@@ -91,6 +95,19 @@ static void print_written(const uint8_t *sheet, size_t length)
     fwrite(out, 1, written, stdout);
 }
 
+/* Draws a sheet for as many buyers and lots, which are none if it is refused, into a buffer that is
+ * too short and into one that is not. */
+static void print_trial(const uint8_t *sheet, size_t length)
+{
+    hokewhuni_read read = hokewhuni_read_sheet(sheet, length);
+    uint16_t number = (uint16_t)(NUMBER + length);
+    uint8_t out[HOKEWHUNI_SHEET_BYTES];
+    print_wrote(hokewhuni_trial_sheet(number, read.buyers, read.lots, TOP, out, TOO_SHORT));
+    size_t written = print_wrote(
+        hokewhuni_trial_sheet(number, read.buyers, read.lots, TOP, out, sizeof out));
+    fwrite(out, 1, written, stdout);
+}
+
 int main(void)
 {
     static const uint16_t zeros[96];
@@ -105,5 +122,6 @@ int main(void)
     print_direct(sheet, length);
     print_record(sheet, length, sale.rounds);
     print_written(sheet, length);
+    print_trial(sheet, length);
     return fclose(stdout);
 }

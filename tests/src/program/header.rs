@@ -23,6 +23,10 @@ const BUYER: u32 = 2;
 /// The length of a buffer that has room for no sheet: one byte less than the shortest has.
 const TOO_SHORT: usize = 19;
 
+/// The number of a trial sheet, less the length of the sheet, and its top.
+const NUMBER: u16 = 40_000;
+const TOP: u32 = 300;
+
 /// A printed sale has at most a line of four fields, four of two, and six of four.
 pub(super) const LONGEST_PRINT: usize = 25 + 4 * 13 + 6 * 25;
 
@@ -45,7 +49,7 @@ pub fn compare(tally: &mut Tally, generator: &mut Generator) {
 }
 
 /// The constants, and every number of each entry's answer, a line for each; then the recorded sets,
-/// the print, and what is written of the sheet's worths.
+/// the print, what is written of the sheet's worths, and a trial sheet of the same size.
 fn answers(sheet: &[u8]) -> Vec<u8> {
     let field = raw::read_field(sheet, FIRST_LINE);
     let read = raw::read_sheet(sheet);
@@ -73,26 +77,32 @@ fn answers(sheet: &[u8]) -> Vec<u8> {
     let mut text = lines.map(|line| line + "\n").concat().into_bytes();
     text.extend(print_sale(sheet));
     text.extend(written(&worths));
+    text.extend(trial(sheet.len() as u16, &read));
     text
 }
 
-/// What is answered where the worths are written into a buffer that is too short, and into one that
-/// is not; and what the latter has. A refused sheet has no worths.
+/// What is answered where the worths are written. A refused sheet has no worths.
 fn written(read: &raw::Worths) -> Vec<u8> {
     let rows = read.worths.chunks(MOST_BUNDLES).take(read.buyers.into());
     let worths = rows.flat_map(|row| &row[1..=bundles(read.lots.into())]);
     let worths: Vec<u32> = worths.map(|&worth| worth.into()).collect();
+    wrote(|out| raw::write_sheet(read.buyers.into(), read.lots.into(), &worths, out))
+}
+
+/// What is answered where a sheet of the size is drawn. A refused sheet has none.
+fn trial(length: u16, read: &raw::Read) -> Vec<u8> {
+    let (buyers, lots) = (read.buyers.into(), read.lots.into());
+    wrote(|out| raw::trial_sheet(NUMBER + length, buyers, lots, TOP, out))
+}
+
+/// What is answered of writing into a buffer that is too short, and into one that is not; and what
+/// the latter has.
+fn wrote(write: impl Fn(&mut [u8]) -> raw::Wrote) -> Vec<u8> {
     let mut out = [0; MOST_READ];
-    let mut text = Vec::new();
-    let mut write = |out: &mut [u8]| {
-        let wrote = raw::write_sheet(read.buyers.into(), read.lots.into(), &worths, out);
-        let line = each(&[wrote.number.into(), wrote.place, wrote.length]) + "\n";
-        text.extend(line.into_bytes());
-        wrote.length as usize
-    };
-    write(&mut out[..TOO_SHORT]);
-    let length = write(&mut out);
-    text.extend(&out[..length]);
+    let [short, whole] = [TOO_SHORT, MOST_READ].map(|length| write(&mut out[..length]));
+    let line = |wrote: &raw::Wrote| each(&[wrote.number.into(), wrote.place, wrote.length]) + "\n";
+    let mut text = [&short, &whole].map(line).concat().into_bytes();
+    text.extend(&out[..whole.length as usize]);
     text
 }
 
