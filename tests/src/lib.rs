@@ -11,5 +11,6 @@ pub mod reckoning;
 pub mod sales;
 pub mod sheets;
 pub mod tally;
+pub mod timing;
 pub mod trials;
 pub mod writing;

@@ -3,10 +3,10 @@
 #![forbid(unsafe_code)]
 
 use std::hint::black_box;
-use std::time::Instant;
 
 use comparison::generator::{bytes_of, Generator};
 use comparison::reckoning::sheet::{read_sheet, MOST_BUYERS, MOST_LOTS};
+use comparison::timing;
 use hokewhuni::raw;
 
 const SEED: u64 = 1;
@@ -19,31 +19,14 @@ fn main() {
     assert_eq!(raw::read_sheet(&bytes).number, 0);
     assert_eq!(read_sheet(&bytes), Ok(sheet));
 
-    let (mut library, mut rust) = (Vec::new(), Vec::new());
-    for _ in 0..REPETITIONS {
-        library.push(nanoseconds(|| raw::read_sheet(black_box(&bytes))));
-        rust.push(nanoseconds(|| read_sheet(black_box(&bytes))));
-    }
-    let (library, rust) = (median(library), median(rust));
     println!(
         "read_sheet of {} bytes, medians of {REPETITIONS} × {READINGS} readings",
         bytes.len()
     );
-    println!("library: {library:.0} ns");
-    println!("Rust: {rust:.0} ns");
-    println!("library / Rust: {:.2}", library / rust);
-}
-
-/// The time of one reading, as the mean of many.
-fn nanoseconds<T>(read: impl Fn() -> T) -> f64 {
-    let start = Instant::now();
-    for _ in 0..READINGS {
-        black_box(read());
-    }
-    start.elapsed().as_nanos() as f64 / f64::from(READINGS)
-}
-
-fn median(mut times: Vec<f64>) -> f64 {
-    times.sort_by(f64::total_cmp);
-    times[times.len() / 2]
+    timing::compare(
+        REPETITIONS,
+        READINGS,
+        || raw::read_sheet(black_box(&bytes)),
+        || read_sheet(black_box(&bytes)),
+    );
 }
