@@ -177,11 +177,11 @@ hokewhuni_wrote hokewhuni_write_sheet(uint32_t buyers, uint32_t lots, const uint
 
 /* Asks questions 3, 4, 7 and 11, writes a trial sheet to the front of `out`, and answers its
  * length. Bytes of `out` after it keep their values; with a refusal all bytes do. Whoever is told
- * the four numbers makes the same sheet again, byte for byte. The worths are drawn in the sheet's
- * order by Marsaglia's xorwow (Xorshift RNGs, 2003), which each call starts anew: 100 draws for
- * each one of `number` are thrown away, and then each worth is the greatest with one lot fewer,
- * plus the remainder of the next draw by top + 1; or 9,999 if that is less. hokewhuni_read_worths
- * answers these worths of what is written. */
+ * sheet number, buyers, lots and top makes the same sheet again, byte for byte. The worths are
+ * drawn in the sheet's order by Marsaglia's xorwow (Xorshift RNGs, 2003), which each call starts
+ * anew: 100 draws for each one of the sheet number are thrown away, and then each worth is the
+ * greatest with one lot fewer, plus the remainder of the next draw by top + 1; or 9,999 if that is
+ * less. hokewhuni_read_worths answers these worths of what is written. */
 hokewhuni_wrote hokewhuni_trial_sheet(uint16_t number, uint32_t buyers, uint32_t lots, uint32_t top,
                                       uint8_t *out, size_t out_length);
 
