@@ -1,7 +1,7 @@
 //! Buffers of every length, for trial sheets of every size and for numbers that are refused. The
 //! bytes after a sheet stay as they were, and with a refusal all do (rule 12.6).
 
-use super::{any_trial, trial};
+use super::{any_top, trial};
 use crate::generator::{sizes, Generator};
 use crate::reckoning::sheet::refuse;
 use crate::reckoning::trial::{drawn_sheet, Trial};
@@ -23,9 +23,9 @@ const REFUSED: [((usize, usize), u32, u8); 6] = [
 
 pub fn compare(tally: &mut Tally, generator: &mut Generator) {
     tally.group("trial sheets in buffers of every length", |tally| {
-        for (buyers, lots) in sizes() {
-            let any = any_trial(generator, NUMBERS);
-            let trial = trial(any.number, (buyers, lots), any.top);
+        for size in sizes() {
+            let number = generator.below(NUMBERS) as u16;
+            let trial = trial(number, size, any_top(generator));
             write(tally, generator, &trial, &drawn_sheet(&trial));
         }
         for (size, top, number) in REFUSED {

@@ -14,8 +14,8 @@ mod sizes;
 mod tops;
 mod turns;
 
-/// The least tops and the greatest, and two between: one with which hardly a worth is cut to 9,999,
-/// and one with which many are.
+/// The least tops and the greatest, one with which no worth is cut to 9,999, and one with which some
+/// are.
 const TOPS: [u32; 6] = [0, 1, 5, 4_000, 9_998, 9_999];
 
 /// Runs the groups of draws, buffers and refusals.
@@ -44,10 +44,14 @@ fn trial(number: u16, (buyers, lots): (usize, usize), top: u32) -> Trial {
     }
 }
 
-/// The numbers of a trial sheet of any size, with a number below the bound, and one of the
-/// tops or any.
+/// The numbers of a trial sheet of any size and top, with a sheet number below the bound.
 fn any_trial(generator: &mut Generator, bound: usize) -> Trial {
     let number = generator.below(bound) as u16;
+    trial(number, generator.size(), any_top(generator))
+}
+
+/// One of the tops, or any.
+fn any_top(generator: &mut Generator) -> u32 {
     let tops = [generator.pick(&TOPS), generator.below(10_000) as u32];
-    trial(number, generator.size(), generator.pick(&tops))
+    generator.pick(&tops)
 }

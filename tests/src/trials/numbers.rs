@@ -1,9 +1,8 @@
 //! Sheet numbers spread up to the greatest, and those at the edges of narrower numbers, with sheets
 //! of any size and top. Draws are thrown away by the million (rule 12.3).
 
-use super::any_trial;
+use super::{any_top, trial};
 use crate::generator::Generator;
-use crate::reckoning::trial::Trial;
 use crate::tally::Tally;
 use crate::writing::LONGEST;
 
@@ -20,10 +19,7 @@ pub fn compare(tally: &mut Tally, generator: &mut Generator) {
     tally.group("trial sheets of high numbers", |tally| {
         for number in spread.chain(EDGES) {
             for _ in 0..DRAWN {
-                let trial = Trial {
-                    number,
-                    ..any_trial(generator, 1)
-                };
+                let trial = trial(number, generator.size(), any_top(generator));
                 tally.trial(&trial, &generator.bytes(LONGEST));
             }
         }
