@@ -100,14 +100,18 @@ pub fn ends(tally: &mut Tally, words: &[&str], input: &[u8], end: &End) {
     tally.process_end(what, || run(command().args(words), input), end);
 }
 
-/// The list names each command, and each has its help, by two names.
-fn help(tally: &mut Tally) {
-    let printed = |words: &[&str]| match run(command().args(words), b"") {
+/// What is printed with these words, where nothing else is said.
+pub fn printed(words: &[&str]) -> Result<String, String> {
+    match run(command().args(words), b"") {
         Ok(ended) if ended.with(0) && ended.errors.is_empty() => {
             told(String::from_utf8(ended.output))
         }
         ended => Err(format!("{words:?}: {ended:?}")),
-    };
+    }
+}
+
+/// The list names each command, and each has its help, by two names.
+fn help(tally: &mut Tally) {
     let list = tally.succeeds("hokewhuni", printed(&[]));
     for words in [["help"], ["--help"], ["-h"]] {
         let text = tally.succeeds(words[0], printed(&words));

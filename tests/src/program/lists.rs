@@ -2,6 +2,7 @@
 //! is handed, and what it prints (rules 11.8 and 11.9).
 
 use super::inputs::BAD_FIELDS;
+use super::makers::{self, fields, GREATEST_FIELD};
 use super::{program, WRITE};
 use crate::generator::{bytes_of, field, Generator};
 use crate::process::run;
@@ -17,9 +18,6 @@ const DRAWN: usize = 1_000;
 /// The program is handed as many numbers, buyers and lots too (rule 11.10).
 pub const MOST_NUMBERS: usize = 2 + 91;
 
-/// The greatest number of a field (rule 2.2), and so the greatest that it is handed.
-const GREATEST_FIELD: u32 = 999_999;
-
 /// The most bytes of its input that the program takes (rule 11.8).
 const MOST_READ: usize = 558;
 
@@ -30,7 +28,7 @@ const NOT_GOOD: u32 = 1_000_000;
 const REFUSALS: [u8; 5] = [3, 4, 5, 7, 8];
 
 /// Numbers of buyers and of lots, in range and out of it.
-const SIZES: [u32; 10] = [0, 1, 2, 3, 4, 5, 6, 7, 8, GREATEST_FIELD];
+pub const SIZES: [u32; 10] = [0, 1, 2, 3, 4, 5, 6, 7, 8, GREATEST_FIELD];
 
 /// Inputs that are not all good fields, or too few, with what is printed of them.
 const KNOWN: [(&[u8], &str); 14] = [
@@ -90,15 +88,13 @@ pub fn due(buyers: u32, lots: u32) -> usize {
 
 /// The numbers as words.
 pub fn words(list: &List) -> Vec<String> {
-    numbers(list).map(|number| number.to_string()).collect()
+    makers::words(numbers(list))
 }
 
 /// What the command hands to the program: a field for each number, with nothing between them (rules
 /// 11.8 and 11.10).
 pub fn handed_on(list: &List) -> Vec<u8> {
-    let numbers = numbers(list).take(MOST_NUMBERS);
-    let fields = numbers.map(|number| field(number.min(GREATEST_FIELD) as usize));
-    fields.flatten().collect()
+    fields(numbers(list).take(MOST_NUMBERS))
 }
 
 /// The numbers of buyers and lots, and the worths.
@@ -141,7 +137,9 @@ pub fn compare(tally: &mut Tally, generator: &mut Generator) {
     });
     tally.group("lists: fields that are not good", |tally| {
         known(tally);
-        not_good(tally, &handed_on(&List::new(2, 2, WORTHS)));
+        for input in damaged(&handed_on(&List::new(2, 2, WORTHS))) {
+            print(tally, &input);
+        }
     });
     tally.group("lists: cut and lengthened", |tally| {
         for (buyers, lots) in GOOD {
@@ -206,17 +204,12 @@ fn known(tally: &mut Tally) {
 
 /// A good input with one byte changed, a zero in front of a number among these, and with one field
 /// that is not good.
-fn not_good(tally: &mut Tally, good: &[u8]) {
-    for at in 0..good.len() {
-        for byte in BYTES {
-            print(tally, &with(good, at, &[*byte]));
-        }
-    }
-    for at in (0..good.len()).step_by(FIELD) {
-        for field in BAD_FIELDS {
-            print(tally, &with(good, at, &field));
-        }
-    }
+pub fn damaged(good: &[u8]) -> Vec<Vec<u8>> {
+    let bytes =
+        (0..good.len()).flat_map(|at| BYTES.iter().map(move |byte| with(good, at, &[*byte])));
+    let fields = (0..good.len()).step_by(FIELD);
+    let fields = fields.flat_map(|at| BAD_FIELDS.map(|field| with(good, at, &field)));
+    bytes.chain(fields).collect()
 }
 
 /// The input with these bytes at a place.

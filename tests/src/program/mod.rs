@@ -21,6 +21,7 @@ mod inputs;
 mod installing;
 mod line_ends;
 mod lists;
+mod makers;
 mod memory;
 mod office;
 mod pieces;
