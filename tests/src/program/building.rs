@@ -41,9 +41,10 @@ const PATIENCE: Duration = Duration::from_secs(60);
 /// What a sale says that finds another one building.
 const WAITING: &str = "hokewhuni: waiting for another build\n";
 
-/// The words of a sale, and of a list that is written.
+/// The words of a sale, and of sheets that are made of numbers.
 const SELL: &[&str] = &["sale"];
 const LIST: &[&str] = &["write", "1", "1", "7"];
+const TRIAL: &[&str] = &["trial", "1", "1", "1", "7"];
 
 /// A tree with the command and the sources of its programs, and notes of what was built.
 struct Tree {
@@ -77,7 +78,7 @@ const TESTS: [Test; 12] = [
     ("a build that is interrupted", interrupted),
     ("a program that is gone", gone),
     ("a build that fails", failing),
-    ("two programs", two_programs),
+    ("three programs", three_programs),
 ];
 
 impl Tree {
@@ -90,16 +91,19 @@ impl Tree {
             "crates/first/src",
             "crates/sale_main/src",
             "crates/write_main/src",
+            "crates/trial_main/src",
         ] {
             told(fs::create_dir_all(tree.path(folder)))?;
         }
         copy_executable(&in_repository("hokewhuni"), &tree.path("hokewhuni"))?;
         tree.write(
             "crates.txt",
-            "# a comment\nfirst:\nother: first\nsale_main: first io\nwrite_main: io first\n",
+            "# a comment\nfirst:\nother: first\nsale_main: first io\nwrite_main: io first\n\
+             trial_main: first io\n",
         )?;
         tree.write("crates/first/src/lib.rt", "one")?;
         tree.write("crates/write_main/src/main.rt", "lists")?;
+        tree.write("crates/trial_main/src/main.rt", "trials")?;
         tree.write("rt", RT)?;
         copy_executable(&tree.path("rt"), &tree.path("bin/rt"))?;
         tree.write("go", "")?;
@@ -344,22 +348,33 @@ fn failing(tree: &Tree) -> Result<(), String> {
     tree.expect("ten", 1).map(|_| ())
 }
 
-/// Each command builds its own program, of sources that are those of both; misused, none.
-fn two_programs(tree: &Tree) -> Result<(), String> {
-    let before = tree.calls();
-    let misused = tree.run(&LIST[..2])?;
-    require(misused.with(2) && tree.calls() == before, || {
-        format!("{misused:?}")
-    })?;
-    let ended = tree.expect_of(LIST, "lists", 1)?;
-    builds(tree, &ended, "write_main")?;
-    quiet(&tree.expect_of(LIST, "lists", 0)?)?;
+/// Each command builds its own program, of sources that are those of all; misused, none.
+fn three_programs(tree: &Tree) -> Result<(), String> {
+    let makers = [
+        (LIST, "lists", "write_main"),
+        (TRIAL, "trials", "trial_main"),
+    ];
+    for (words, text, name) in makers {
+        let before = tree.calls();
+        let misused = tree.run(&words[..2])?;
+        require(misused.with(2) && tree.calls() == before, || {
+            format!("{misused:?}")
+        })?;
+        let ended = tree.expect_of(words, text, 1)?;
+        builds(tree, &ended, name)?;
+        quiet(&tree.expect_of(words, text, 0)?)?;
+    }
     quiet(&tree.expect("ten", 0)?)?;
     tree.edit("eleven")?;
     tree.expect("eleven", 1)?;
-    tree.expect_of(LIST, "lists", 1)?;
+    for (words, text, _) in makers {
+        tree.expect_of(words, text, 1)?;
+    }
     quiet(&tree.expect("eleven", 0)?)?;
-    quiet(&tree.expect_of(LIST, "lists", 0)?)
+    for (words, text, _) in makers {
+        quiet(&tree.expect_of(words, text, 0)?)?;
+    }
+    Ok(())
 }
 
 /// Status 0, and a line of the program's text.

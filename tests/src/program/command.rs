@@ -117,7 +117,7 @@ fn help(tally: &mut Tally) {
         let text = tally.succeeds(words[0], printed(&words));
         tally.text(words[0], text.as_bytes(), list.as_bytes());
     }
-    for name in ["sale", "write", "install", "help"] {
+    for name in ["sale", "write", "trial", "install", "help"] {
         let listed = list.contains(&format!("\n  {name} "));
         let missing = || format!("not in the list: {list}");
         tally.succeeds(name, listed.then_some(()).ok_or_else(missing));

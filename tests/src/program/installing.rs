@@ -8,15 +8,16 @@ use std::process::Command;
 use super::building::SYSTEM;
 use super::examples::examples;
 use super::folder::{copy_executable, Folder};
-use super::{in_repository, told, BUILDING, SALE, WRITE};
+use super::{in_repository, told, trials, BUILDING, SALE, TRIAL, WRITE};
 use crate::process::{run, run_within, Ended};
 use crate::tally::{End, Tally};
 
 /// What a folder has after an installation, besides the examples and what is there for Rust.
-const FILES: [&str; 6] = [
+const FILES: [&str; 7] = [
     "hokewhuni",
     "programs/sale_main",
     "programs/write_main",
+    "programs/trial_main",
     "lib/libhokewhuni.a",
     "include/hokewhuni.h",
     "docs/TEACHER.md",
@@ -42,7 +43,7 @@ pub fn compare(tally: &mut Tally) {
         tally.succeeds("install", installed(install(), &first));
         files(tally, &first);
         sales(tally, &first);
-        list(tally, &first);
+        sheets(tally, &first);
         // An installed copy installs others, by a relative path too.
         let again = || {
             let mut command = system(&first.join("hokewhuni"));
@@ -103,18 +104,22 @@ fn sales(tally: &mut Tally, folder: &Path) {
     }
 }
 
-/// A list, and its sale.
-fn list(tally: &mut Tally, folder: &Path) {
+/// Sheets that are made of numbers, and a sale.
+fn sheets(tally: &mut Tally, folder: &Path) {
+    let [sheet, sale] = ["one-lot.sheet", "one-lot.sale"].map(|name| {
+        let text = fs::read(in_repository("examples").join(name));
+        tally.succeeds(name, text)
+    });
     for (line, output) in [
-        ("write 2 1 5 3", "one-lot.sheet"),
-        ("write 2 1 5 3 | ./hokewhuni sale", "one-lot.sale"),
+        ("write 2 1 5 3", &*sheet),
+        ("write 2 1 5 3 | ./hokewhuni sale", &sale),
+        ("trial 1 2 2 5", trials::SHEET.as_bytes()),
     ] {
-        let output = fs::read(in_repository("examples").join(output));
-        let output = tally.succeeds(line, output);
         let mut shell = system(Path::new("sh"));
         shell.args(["-c", &format!("./hokewhuni {line}")]);
         let run = || run(shell.current_dir(folder), b"");
-        tally.process(format_args!("an installed hokewhuni {line}"), run, &output);
+        let what = format_args!("an installed hokewhuni {line}");
+        tally.process(what, run, output);
     }
 }
 
@@ -170,11 +175,12 @@ fn not_a_folder(tally: &mut Tally, folder: &Path) {
     tally.process_end("install into a file", run, &end);
 }
 
-/// A program that prints nothing settles and writes nothing.
+/// A program that prints nothing settles, writes and makes nothing.
 fn empty_program(tally: &mut Tally, folder: &Path) {
     for (name, words) in [
         (SALE, &["sale", "examples/table-3.sheet"][..]),
         (WRITE, &["write", "2", "1", "5", "3"]),
+        (TRIAL, &["trial", "1", "2", "2", "5"]),
     ] {
         let program = folder.join("programs").join(name);
         let emptied = copy_executable(Path::new("/dev/null"), &program);

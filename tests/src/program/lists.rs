@@ -55,7 +55,7 @@ const WORTHS: [u32; 6] = [5, 40, 300, 0, 9_999, 9_999];
 const GOOD: [(usize, usize); 3] = [(1, 1), (2, 2), (6, 4)];
 
 /// What a byte of a good input is changed to.
-const BYTES: &[u8] = b" 07:a-\n\0\xff";
+const BYTES: &[u8] = b" 07/:a-\t\n\0\xff";
 
 /// What comes after a good input: less than a field, or one that is good or not, or more.
 const TAILS: [&[u8]; 9] = [

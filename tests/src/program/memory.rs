@@ -4,7 +4,9 @@ use std::process::Command;
 
 use super::inputs::{KINDS, LONGEST};
 use super::lists::{handed_on, print_list};
-use super::{program_path, SALE, WRITE};
+use super::makers::fields;
+use super::trial_inputs::{drawn, print_trial, trial, Numbers};
+use super::{program_path, SALE, TRIAL, WRITE};
 use crate::generator::{bytes_of, Generator};
 use crate::process::run;
 use crate::reckoning::print::print_sale;
@@ -18,7 +20,7 @@ const SIZES: [(usize, usize); 5] = [(1, 1), (1, 4), (6, 1), (6, 4), (3, 2)];
 /// The greatest worth of these.
 const TOP: u16 = 12;
 
-/// Lists drawn.
+/// Lists and trial sheets drawn.
 const DRAWN: usize = 8;
 
 pub fn compare(tally: &mut Tally, generator: &mut Generator) {
@@ -42,6 +44,16 @@ pub fn compare(tally: &mut Tally, generator: &mut Generator) {
             write(tally, &changed(generator));
         }
     });
+    tally.group("trials under valgrind", |tally| {
+        compare_program(tally, TRIAL, b"", b"");
+        compare_program(tally, TRIAL, &[b' '; LONGEST], b"");
+        for (buyers, lots) in SIZES {
+            make(tally, [1, buyers as u32, lots as u32, 9_999]);
+        }
+        for _ in 0..DRAWN {
+            make(tally, drawn(generator));
+        }
+    });
 }
 
 fn print(tally: &mut Tally, input: &[u8]) {
@@ -50,6 +62,12 @@ fn print(tally: &mut Tally, input: &[u8]) {
 
 fn write(tally: &mut Tally, list: &List) {
     compare_program(tally, WRITE, &handed_on(list), &print_list(list));
+}
+
+fn make(tally: &mut Tally, numbers: Numbers) {
+    let print = trial(numbers).map(|trial| print_trial(&trial));
+    let print = print.unwrap_or_default();
+    compare_program(tally, TRIAL, &fields(numbers), &print);
 }
 
 fn compare_program(tally: &mut Tally, name: &str, input: &[u8], output: &[u8]) {

@@ -1,5 +1,5 @@
-//! The tests of the programs that print a sale and write a sheet, as processes; of the command that
-//! builds, runs and installs them; of the C header and example, which are compiled for it; of the
+//! The tests of the programs that print a sale, write a sheet and make a trial sheet, as processes; of
+//! the command that builds, runs and installs them; of the C header and example, which are compiled for it; of the
 //! Rust crate, which is built for it; and of the teacher's page.
 
 use std::env;
@@ -28,6 +28,8 @@ mod pieces;
 mod rust;
 mod streams;
 mod teacher;
+mod trial_inputs;
+mod trials;
 mod writing;
 
 /// Building and proving may take this long.
@@ -37,6 +39,7 @@ const BUILDING: Duration = Duration::from_secs(1_800);
 pub fn compare_inputs(tally: &mut Tally, generator: &mut Generator) {
     inputs::compare(tally, generator);
     lists::compare(tally, generator);
+    trial_inputs::compare(tally, generator);
     pieces::compare(tally, generator);
 }
 
@@ -52,6 +55,7 @@ pub fn compare(tally: &mut Tally, generator: &mut Generator) {
     installing::compare(tally);
     command::compare(tally, generator);
     writing::compare(tally, generator);
+    trials::compare(tally, generator);
     teacher::compare(tally);
     line_ends::compare(tally);
 }
@@ -69,6 +73,7 @@ fn told<T>(result: Result<T, impl Display>) -> Result<T, String> {
 /// The programs, by their names.
 const SALE: &str = "sale_main";
 const WRITE: &str = "write_main";
+const TRIAL: &str = "trial_main";
 
 /// Where a program is. HOKEWHUNI_PROGRAMS names another folder.
 fn program_path(name: &str) -> PathBuf {

@@ -2,7 +2,9 @@
 
 use super::inputs::KINDS;
 use super::lists::{handed_on, print_list};
-use super::{program, SALE, WRITE};
+use super::makers::fields;
+use super::trial_inputs::{drawn, print_trial, trial};
+use super::{program, SALE, TRIAL, WRITE};
 use crate::generator::Generator;
 use crate::process::run_in_pieces;
 use crate::reckoning::print::print_sale;
@@ -12,8 +14,9 @@ use crate::writing::random::changed;
 /// Inputs drawn of each kind.
 const DRAWN: usize = 5;
 
-/// Lists drawn.
+/// Lists and trial sheets drawn.
 const LISTS: usize = 20;
+const TRIALS: usize = 10;
 
 /// The most bytes of a piece.
 const MOST: usize = 7;
@@ -31,6 +34,12 @@ pub fn compare(tally: &mut Tally, generator: &mut Generator) {
             let list = changed(generator);
             let (input, output) = (handed_on(&list), print_list(&list));
             print(tally, generator, (WRITE, most), &input, &output);
+        }
+        for most in [1, MOST].repeat(TRIALS) {
+            let numbers = drawn(generator);
+            let output = trial(numbers).map(|trial| print_trial(&trial));
+            let (input, output) = (fields(numbers), output.unwrap_or_default());
+            print(tally, generator, (TRIAL, most), &input, &output);
         }
     });
 }

@@ -1,19 +1,24 @@
 //! Standard input that has no bytes or cannot be read, and standard output that cannot be written.
-//! The program of a sale prints the refusal of what it could read; both end.
+//! The programs print what is due for no bytes, and end.
 
 use std::fs::{File, OpenOptions};
 use std::io;
 use std::process::{Command, Stdio};
 
-use super::{in_repository, program, program_path, SALE, WRITE};
+use super::{in_repository, program, program_path, SALE, TRIAL, WRITE};
 use crate::process::{run, run_from, run_into, run_unread, Ended};
 use crate::tally::Tally;
 
-/// What is printed of fewer than 13 bytes (rule 3.1).
-const NO_SHEET: &[u8] = b"     1     0\n";
+/// What is printed of no bytes (rules 3.1, 11.8 and 12.8).
+const NO_BYTES: [(&str, &[u8]); 3] = [
+    (SALE, b"     1     0\n"),
+    (WRITE, b"     3     0\n"),
+    (TRIAL, b""),
+];
 
-/// A sheet that is settled and one that is refused; a list that is written and one that is refused.
-const INPUTS: [(&str, &[u8]); 4] = [
+/// A sheet that is settled and one that is refused; a list that is written and one that is refused;
+/// a trial sheet that is made and one that is refused.
+const INPUTS: [(&str, &[u8]); 6] = [
     (
         SALE,
         b"     2     2\n     2     0     2\n     0     1     3\n",
@@ -24,10 +29,16 @@ const INPUTS: [(&str, &[u8]); 4] = [
     ),
     (WRITE, b"     2     1     5     3"),
     (WRITE, b"     2     1     5"),
+    (TRIAL, b"     1     2     2     5"),
+    (TRIAL, b"     1     2     2 10000"),
 ];
 
 pub fn compare(tally: &mut Tally) {
-    tally.group("standard input without bytes", inputs);
+    tally.group("standard input without bytes", |tally| {
+        for (name, output) in NO_BYTES {
+            inputs(tally, name, output);
+        }
+    });
     tally.group("standard output that cannot be written", |tally| {
         for (name, input) in INPUTS {
             outputs(tally, name, input);
@@ -35,18 +46,18 @@ pub fn compare(tally: &mut Tally) {
     });
 }
 
-fn inputs(tally: &mut Tally) {
-    let mut input = |name: &str, run: &dyn Fn() -> io::Result<Ended>| {
-        tally.process(format_args!("the program, its input {name}"), run, NO_SHEET);
+fn inputs(tally: &mut Tally, name: &str, output: &[u8]) {
+    let mut input = |which: &str, run: &dyn Fn() -> io::Result<Ended>| {
+        tally.process(format_args!("{name}, its input {which}"), run, output);
     };
-    input("an empty pipe", &|| run(&mut program(SALE), b""));
-    input("no device", &|| run_from(&mut program(SALE), Stdio::null()));
+    input("an empty pipe", &|| run(&mut program(name), b""));
+    input("no device", &|| run_from(&mut program(name), Stdio::null()));
     input("a folder", &|| {
-        run_from(&mut program(SALE), File::open(in_repository("."))?)
+        run_from(&mut program(name), File::open(in_repository("."))?)
     });
-    input("closed", &|| run(&mut redirected(SALE, "<&-"), b""));
+    input("closed", &|| run(&mut redirected(name, "<&-"), b""));
     input("open for writing", &|| {
-        run(&mut redirected(SALE, "0>/dev/null"), b"")
+        run(&mut redirected(name, "0>/dev/null"), b"")
     });
 }
 

@@ -45,7 +45,7 @@ fn trial(number: u16, (buyers, lots): (usize, usize), top: u32) -> Trial {
 }
 
 /// The numbers of a trial sheet of any size and top, with a sheet number below the bound.
-fn any_trial(generator: &mut Generator, bound: usize) -> Trial {
+pub fn any_trial(generator: &mut Generator, bound: usize) -> Trial {
     let number = generator.below(bound) as u16;
     trial(number, generator.size(), any_top(generator))
 }
