@@ -1,5 +1,5 @@
-//! The teacher's page: the rounds of table 3, row by row, and the lists, with what it says is printed
-//! of them.
+//! The teacher's page: the rounds of table 3, row by row, and the sheets that are made of numbers, with
+//! what it says is printed of them.
 
 use std::fs;
 
@@ -16,8 +16,9 @@ const PAGE: &str = "docs/TEACHER.md";
 
 const SHEET: &str = "examples/table-3.sheet";
 
-/// The page has so many lists.
-const LISTS: usize = 3;
+/// The commands that make a sheet, and how often the page runs them.
+const MAKERS: [&str; 2] = ["./hokewhuni write ", "./hokewhuni trial "];
+const MADE: usize = 6;
 
 pub fn compare(tally: &mut Tally) {
     tally.group("the teacher's page", |tally| {
@@ -28,10 +29,10 @@ pub fn compare(tally: &mut Tally) {
         let page = String::from_utf8_lossy(&page);
         let table = table(&page);
         tally.text("the rounds of table 3", table.as_bytes(), rows.as_bytes());
-        let lists = lists(&page);
-        let all = (lists.len() == LISTS).then_some(());
-        tally.succeeds("the lists", all.ok_or_else(|| format!("{lists:?}")));
-        for (line, lines) in lists {
+        let made = made(&page);
+        let all = (made.len() == MADE).then_some(());
+        tally.succeeds("made sheets", all.ok_or_else(|| format!("{made:?}")));
+        for (line, lines) in made {
             let end = End {
                 status: lines.contains("refused by").into(),
                 output: lines.as_bytes(),
@@ -43,17 +44,17 @@ pub fn compare(tally: &mut Tally) {
     });
 }
 
-/// Each command line of the page that has a list, with the indented lines that follow next.
-fn lists(page: &str) -> Vec<(String, String)> {
+/// Each command line of the page that makes a sheet, with the indented lines that follow next.
+fn made(page: &str) -> Vec<(String, String)> {
     let mut blocks = page.split("\n\n").filter_map(block);
-    let mut lists = Vec::new();
+    let mut made = Vec::new();
     while let Some(block) = blocks.next() {
-        if block.starts_with("./hokewhuni write ") {
+        if MAKERS.iter().any(|maker| block.starts_with(maker)) {
             let line = block.trim_end().to_string();
-            lists.push((line, blocks.next().unwrap_or_default()));
+            made.push((line, blocks.next().unwrap_or_default()));
         }
     }
-    lists
+    made
 }
 
 /// The lines of a paragraph that is indented, without that.
