@@ -12,14 +12,12 @@ use lib.ListN.{length, take, drop, getD, replicate}
 use Rattle.numbers.proofs.Subsets.{bit-below}
 use Rattle.fields.specs.Fields as fields
 use Rattle.printing.proofs.Fours.{two-small}
-use Rattle.sheet.specs.Sheets.{lineLength}
 use Rattle.generator.specs.declared.Generator.{Generator}
 use Rattle.generator.specs.Xorwow as xorwow
 use Rattle.sale.specs.declared.Sale.{Sale}
 use Rattle.sale.specs.Answers.{SaleSays}
 use Rattle.writing.specs.declared.Wrote.{Wrote}
-use Rattle.writing.specs.Lists as tree
-use Rattle.trial.specs.Worths.{mostFewer, drawFor, trialTable, trialList}
+use Rattle.trial.specs.Worths.{mostFewer, trialTable, trialList}
 use Rattle.trial.specs.Answers.{trialFault, TrialSays, trialText, trialTextOf}
 use Rattle.trial.specs.Claims.{questionNumbers, TrialQuestion, Typed}
 use Rattle.trial.proofs.Tables.{fewer-upper, fewer-reached, trial-worth, list-worth}
@@ -27,7 +25,7 @@ use Rattle.trial.proofs.Questions.{trial-first-no, trial-numbers, trial-range}
 use Rattle.trial.proofs.Answers.{told-number, told-place, told-refused, told-writes}
 use Rattle.trial.proofs.Sold.{trial-sold, trial-record}
 use Rattle.trial.proofs.Texts.{text-says, text-typed}
-use Rattle.claim.specs.Claim.{Has, Between, Accepted, line, listed, Words, drawn, answered, after, draw}
+use Rattle.claim.specs.Claim.{Between, line, Words, drawn, answered, after, draw}
 use Rattle.claim.specs.Claim.{MostFewer, Untried, TrialClaim}
 use Rattle.claim.specs.Claim.Words.{words}
 use Rattle.claim.specs.Claim.Untried.{bad-buyers, bad-lots, high-top, no-room}

@@ -1,10 +1,9 @@
 -- What is written is accepted, and read as the worths that are drawn (`trial-accepted`); it is sold with a record of
 -- question 9's sum (`trial-sold`), which is at most 59,994 (`trial-record`). Assumes nothing.
-use mathlib.Core.Path.{_≡_, refl, sym, ap, ap₂, subst, _∙_}
+use mathlib.Core.Path.{_≡_, refl, sym, ap, _∙_}
 use mathlib.Core.Bool.{_&&_}
 use mathlib.Core.List.{List}
-use Prim.Native.Nat.{ℕ, _/_, _%_, _^_, _≤_, _<_}
-use native.Mathlib.Omega.{arith}
+use Prim.Native.Nat.{ℕ, _/_, _%_, _^_, _≤_}
 use lib.Dec.{ltb, leb}
 use lib.ListN.{length, take}
 use lib.Seq.{take-at}
@@ -17,9 +16,8 @@ use Rattle.sheet.specs.declared.Fault.{Fault}
 use Rattle.sheet.specs.declared.Worths.{Worths}
 use Rattle.sheet.specs.Sheets.{sheetOf}
 use Rattle.sheet.specs.Tables.{cell, cellAt, cells}
-use Rattle.sheet.specs.Questions.{between, sheetFault}
+use Rattle.sheet.specs.Questions.{sheetFault}
 use Rattle.sheet.specs.Answers.{worthsRead}
-use Rattle.sheet.proofs.Faults.{between-means}
 use Rattle.sheet.proofs.Forms.{asked-yes}
 use Rattle.sheet.proofs.Theorems.{accepted-shape}
 use Rattle.owners.proofs.Singles.{limit-small}
@@ -28,7 +26,7 @@ use Rattle.sale.specs.Rounds.{roundLimit}
 use Rattle.sale.specs.Answers.{SaleSays}
 use Rattle.sale.proofs.Opening.{sale-number}
 use Rattle.writing.specs.declared.Wrote.{Wrote}
-use Rattle.writing.specs.Lists.{listed, listSheet, sheetBytes}
+use Rattle.writing.specs.Lists.{listed, sheetBytes}
 use Rattle.writing.specs.Answers.{WriteSays}
 use Rattle.writing.proofs.Questions.{write-all-yes}
 use Rattle.writing.proofs.Answers.{told-number}

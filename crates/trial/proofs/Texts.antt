@@ -1,14 +1,14 @@
 -- What `text_of` answers, of a sheet that is written (`lines-written`) or refused (`lines-refused`); what is printed of
 -- four numbers is what is written of them (`text-says`), and of other bytes nothing is (`text-typed`); it is never long
 -- (`text-longest`, `text-within`). Assumes nothing.
-use mathlib.Core.Path.{_≡_, refl, sym, ap, ap₂, _∙_}
+use mathlib.Core.Path.{_≡_, sym, ap, ap₂, _∙_}
 use mathlib.Core.Logic.{_≢_}
 use mathlib.Core.Bool.{true, false}
-use mathlib.Core.List.{List, [], _∷_, _++_}
-use Prim.Native.Nat.{ℕ, zero, suc, _+_, _-_, _*_, _≤_, _<_}
+use mathlib.Core.List.{List, [], _∷_}
+use Prim.Native.Nat.{ℕ, _+_, _*_, _≤_}
 use native.Mathlib.Omega.{arith}
-use native.Mathlib.Decide.{ℕ-discrete, decLe}
-use lib.ListN.{length, take, drop, getD, replicate, length-replicate}
+use native.Mathlib.Decide.{ℕ-discrete}
+use lib.ListN.{length, take, replicate, length-replicate}
 use lib.Seq.{take-at}
 use borrow.Author.Tests.{eq-eqb, ne-eqb}
 use Rattle.theory.specs.Sums.{pick}

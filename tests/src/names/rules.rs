@@ -19,9 +19,6 @@ const SECTIONS: usize = 12;
 /// The last of the rules that are questions, which begin their section.
 const LAST_QUESTION: Number = Number(3, 10);
 
-/// A rule that begins so cites nothing.
-const NOT_BUILT: &str = "Not built";
-
 /// These may point to documents that are not in the tree.
 const HISTORY: [&str; 2] = ["docs/DECISIONS.md", "docs/changes/"];
 
@@ -33,7 +30,6 @@ struct Rule<'a> {
     /// The section that it stands in.
     section: usize,
     number: Number,
-    text: &'a str,
     /// What says it, and what shows it.
     said: Vec<Citation<'a>>,
     shown: Vec<Citation<'a>>,
@@ -82,15 +78,14 @@ fn rules_of(section: &str) -> impl Iterator<Item = Rule<'_>> {
     parts.filter_map(move |part| rule(place, part))
 }
 
-/// A rule: its number, its text, what says it and what shows it.
+/// A rule: its number, what says it and what shows it.
 fn rule(section: usize, part: &str) -> Option<Rule<'_>> {
     let (digits, rest) = part.split_once("** ")?;
-    let (text, cited) = rest.split_once("\n- Said by ").unwrap_or((rest, ""));
+    let (_, cited) = rest.split_once("\n- Said by ").unwrap_or((rest, ""));
     let (said, shown) = cited.split_once("\n- Shown by ").unwrap_or((cited, ""));
     Some(Rule {
         section,
         number: number(digits)?,
-        text,
         said: citations(said),
         shown: citations(shown),
     })
@@ -119,11 +114,9 @@ impl Rule<'_> {
         if self.section != self.number.0 {
             wrong.push(format!("stands in section {}", self.section));
         }
-        if !self.text.starts_with(NOT_BUILT) {
-            for (list, says) in [(&self.said, "says"), (&self.shown, "shows")] {
-                if list.is_empty() {
-                    wrong.push(format!("nothing is named that {says} it"));
-                }
+        for (list, says) in [(&self.said, "says"), (&self.shown, "shows")] {
+            if list.is_empty() {
+                wrong.push(format!("nothing is named that {says} it"));
             }
         }
         wrong

@@ -1,11 +1,10 @@
 -- `trial::trial_text` meets its contract.
 use mathlib.Core.Path.{_≡_, sym, ap, _∙_}
 use mathlib.Core.Bool.{true}
-use Prim.Native.Nat.{ℕ, _≤_}
 use native.Mathlib.Omega.{arith}
 use borrow.Author.Needs.{needs}
 use borrow.Author.Tests.{not-true, not-false}
-use Rattle.trial.specs.Answers.{trialAsked, trialLines, textOf}
+use Rattle.trial.specs.Answers.{trialAsked, textOf}
 use Rattle.trial.proofs.Fields.{asked-means}
 use Rattle.trial.proofs.Texts.{text-none, text-by}
 use Rattle.trial.proofs.trial_text.Statement.{statement}
