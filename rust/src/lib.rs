@@ -43,7 +43,7 @@
 //! ```
 //!
 //! A trial sheet is drawn, and four numbers make it again: a sheet number, buyers, lots and a top,
-//! which is the most that a bundle is worth above the same with one lot fewer:
+//! the most that a bundle is worth above the best bundle in it with one lot fewer:
 //!
 //! ```
 //! use hokewhuni::TrialRefusal;

@@ -6,20 +6,20 @@ use mathlib.Core.Path.{_≡_, refl, sym, ap, _∙_}
 use mathlib.Core.Logic.{_≢_, _↔_, _⊎_, inl, inr}
 use mathlib.Core.Bool.{true}
 use mathlib.Core.List.{List, [], _∷_}
-use Prim.Native.Nat.{ℕ, zero, suc, min, _+_, _*_, _≤_, _<_}
+use Prim.Native.Nat.{ℕ, zero, suc, _+_, _*_, _≤_, _<_}
 use native.Mathlib.Omega.{arith}
 use native.Mathlib.Decide.{decLe}
 use lib.Dec.{leb}
 use lib.ListN.{drop, getD}
 use borrow.Author.Tests.{le-leb}
-use Rattle.theory.proofs.Tests.{by-test, same-test, leb-means}
+use Rattle.theory.proofs.Tests.{by-test, leb-means}
 use Rattle.sheet.specs.declared.Fault.{Fault}
 use Rattle.sheet.specs.Sheets.{lineLength}
 use Rattle.sheet.specs.Questions.{fault, ask, between}
 use Rattle.sheet.proofs.Faults.{between-means}
 use Rattle.sheet.proofs.Firsts.{FirstNo, first-asked, first-told, Tells, first-none, first-iff}
 use Rattle.sheet.proofs.Theorems.{ask-cases}
-use Rattle.writing.proofs.Limits.{bytes-small}
+use Rattle.writing.proofs.Limits.{bytes-small, cap, cap-between}
 use Rattle.trial.specs.Answers.{trialFault}
 use Rattle.trial.specs.Claims.{questionNumbers, trialQuestions, TrialQuestion}
 use Rattle.trial.proofs.Asking.{bad-buyers, bad-lots, high-top, room-asked}
@@ -112,16 +112,6 @@ pub never-eleven : (m n top room : ℕ) → 559 ≤ room → trialFault m n top 
 never-eleven m n top room long e =
     let (before, there) = trial-first-no m n top room 3 (omega arith) .0 e in
     there (omega (arith, bytes-small m n (before 0 (omega arith) .1) (before 1 (omega arith) .1)))
-
--- the least of a number and 999,999
-abbrev cap : ℕ → ℕ
-cap v = min v 999999
-
-cap-between : (k m : ℕ) → k < 999999 → between k (cap m) ≡ between k m
-cap-between k m h =
-    same-test (between k (cap m)) (between k m)
-    (λ e. between-means k m .1 (omega (arith, between-means k (cap m) .0 e)))
-    (λ e. between-means k (cap m) .1 (omega (arith, between-means k m .0 e)))
 
 pub trial-capped : (m n top room : ℕ) → trialFault (cap m) (cap n) (cap top) room ≡ trialFault m n top room
 trial-capped m n top room =

@@ -81,10 +81,10 @@ write-cut m n vs room =
     ]
 
 -- the least of a number and 999,999
-abbrev cap : ℕ → ℕ
+abbrev pub cap : ℕ → ℕ
 cap v = min v 999999
 
-cap-between : (k m : ℕ) → k < 999999 → between k (cap m) ≡ between k m
+pub cap-between : (k m : ℕ) → k < 999999 → between k (cap m) ≡ between k m
 cap-between k m h =
     same-test (between k (cap m)) (between k m)
     (λ e. between-means k m .1 (omega (arith, between-means k (cap m) .0 e)))
