@@ -133,8 +133,9 @@ module _ (N m n top : ℕ) (o : List ℕ) where
     unfolding trialBytes
     told-writes z =
         let yes-to = trial-all-yes m n top (length o) .0 (sym told-number ∙ z) in
-        let alike = sym (asked-alike N m n top (length o) (between-means 6 m .1 (yes-to 0)) (between-means 4 n .1 (yes-to 1))
-        (yes-to 2)) in
+        let buyers = between-means 6 m .1 (yes-to 0) in
+        let lots = between-means 4 n .1 (yes-to 1) in
+        let alike = sym (asked-alike N m n top (length o) buyers lots (yes-to 2)) in
         record {
           answer = says .answer ∙ ap (λ x. answerBy x b) alike;
           bytes = says .bytes ∙ ap (λ x. bufferBy x b o) alike;

@@ -1,6 +1,6 @@
--- Bytes that are four numbers in six columns each, the first of them a sheet's number: what `is_asked` finds on each way
--- through (`not-long`, `not-good`, `all-good`); that these bytes and no others are asked, and what their numbers are
--- (`typed-asked`, `asked-typed`). Assumes nothing.
+-- Bytes that are four numbers in six columns each, the first of them a sheet's number: what `is_asked` finds on each
+-- way through (`not-long`, `not-good`, `all-good`); that these bytes and no others are asked, and what their numbers
+-- are (`typed-asked`, `asked-typed`). Assumes nothing.
 use mathlib.Core.Path.{_≡_, refl, sym, ap, _∙_}
 use mathlib.Core.Logic.{_≢_}
 use mathlib.Core.Bool.{Bool, true, false}
@@ -102,7 +102,8 @@ pub asked-typed : (b : List ℕ) → trialAsked b ≡ true →
     Typed b (numberAt 0 b) (numberAt 6 b) (numberAt 12 b) (numberAt 18 b)
 asked-typed b e =
     let (long, (each, number)) = asked-means b .0 e in
-    let read : (k : ℕ) → k < 4 → (numberAt (6 * k) b ≤ 999999) × (take 6 (drop (6 * k) b) ≡ columns 6 (numberAt (6 * k) b)) =
+    let at : ℕ → ℕ = λ k. numberAt (6 * k) b in
+    let read : (k : ℕ) → k < 4 → (at k ≤ 999999) × (take 6 (drop (6 * k) b) ≡ columns 6 (at k)) =
     λ k h.
     let (_, small, is) = field-canonical b (6 * k) (numberAt (6 * k) b) .0
     (good-number (fieldAt (6 * k) b) (each k (omega arith))) in

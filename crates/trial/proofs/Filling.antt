@@ -71,8 +71,8 @@ module _ (N n top size : ℕ) (is : size ≡ 2 ^ n - 1) (some : 1 ≤ size) wher
         ∙ sym (row-kept n top (drawFor N n i) c d less))
 
     -- the next state, draw and worth
-    pub filled-next : (g : Generator) → g ≡ after (100 * N + k) → (fewer : ℕ) → fewer ≡ mostFewer n (rowWorth part) (c + 1) →
-        raisedBy top fewer (drawn g .value) ≡ trialAt N n top k
+    pub filled-next : (g : Generator) → g ≡ after (100 * N + k) → (fewer : ℕ) →
+        fewer ≡ mostFewer n (rowWorth part) (c + 1) → raisedBy top fewer (drawn g .value) ≡ trialAt N n top k
     filled-next g e fewer f =
         let draws = drawFor N n i in
         let next : 100 * N + (i * (2 ^ n - 1) + suc c) ≡ suc (100 * N + k) = omega (arith, whole, ap (λ z. i * z) is) in

@@ -76,7 +76,8 @@ module _ (N m n top : ℕ) (o o′ : List ℕ) (r : Wrote) (says : TrialSays N m
       let none = sym (told-number m n vs o o′ r writes) ∙ z in
       let (long, bytes, _) = written-read m n vs o o′ r writes z in
       let front : b ≡ sheetBytes m n vs = ap (take (r .length)) bytes ∙ take-at _ _ (r .length) (sym long) in
-      ap (λ l. sheetFault l .number) front ∙ bytes-accepted m n vs (length o) (write-all-yes m n vs (length o) .0 none) .0
+      ap (λ l. sheetFault l .number) front
+      ∙ bytes-accepted m n vs (length o) (write-all-yes m n vs (length o) .0 none) .0
 
   pub trial-sold : (l l′ : List ℕ) (s : Sale) → SaleSays b l l′ s → roundLimit (sheetOf b) ≤ length l → s .number ≡ 0
   trial-sold l l′ s sale long =

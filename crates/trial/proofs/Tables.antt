@@ -1,6 +1,6 @@
 -- The table that is drawn: what the greatest worth with one lot fewer is (`fewer-upper`, `fewer-reached`); each worth
--- by that (`trial-worth`), none above 9,999 (`trial-small`), none below those (`trial-grows`); and the list of it, which
--- has as many numbers as a sheet (`list-length`), and these (`list-worth`, `list-small`). Assumes nothing.
+-- by that (`trial-worth`), none above 9,999 (`trial-small`), none below those (`trial-grows`); and the list of it,
+-- which has as many numbers as a sheet (`list-length`), and these (`list-worth`, `list-small`). Assumes nothing.
 use mathlib.Core.Path.{_≡_, refl, sym, ap, _∙_}
 use mathlib.Core.Bool.{true}
 use mathlib.Core.List.{List}
@@ -9,8 +9,8 @@ use native.Mathlib.Omega.{arith}
 use lib.ListN.{length, take, getD}
 use Rattle.theory.specs.Sums.{when}
 use Rattle.theory.specs.Lists.{tabulate, upTo}
-use Rattle.theory.proofs.Lists.{most-upper, most-same, most-reached, tabulate-at, tabulate-length, tabulate-take, tabulate-each}
-use Rattle.theory.proofs.Lists.{upTo-in}
+use Rattle.theory.proofs.Lists.{most-upper, most-same, most-reached, tabulate-at, tabulate-length, tabulate-take}
+use Rattle.theory.proofs.Lists.{tabulate-each, upTo-in}
 use Rattle.theory.proofs.Tests.{by-test}
 use Rattle.numbers.specs.Numbers.{bit}
 use Rattle.numbers.proofs.Numbers.{pow-some}
@@ -63,7 +63,8 @@ module _ (N n top i : ℕ) where
   trial-worth c =
       row-last n top (drawFor N n i) c
       ∙ ap (λ x. raisedBy top x (drawFor N n i (suc c)))
-      (most-same (worthWithout (rowWorth (up c)) (suc c)) (worthWithout v (suc c)) (upTo n 0) (λ j _. without-worth c j))
+      (most-same (worthWithout (rowWorth (up c)) (suc c)) (worthWithout v (suc c)) (upTo n 0)
+      (λ j _. without-worth c j))
 
   pub trial-small : (s : ℕ) → v s ≤ 9999
   trial-small zero = omega arith

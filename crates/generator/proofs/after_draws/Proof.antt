@@ -30,7 +30,8 @@ loop-less c = omega arith
 loop-again : tie.Need-loop-again Inv-loop μ-loop
 loop-again c =
     let l = c .before .before .before .loop in
-    (omega arith, ap (λ r. r .next) (c .before .draw .ensures) ∙ ap (λ g. drawn g .next) (l .inv .1) ∙ sym (ap after (add-one (l .k))))
+    let next = ap (λ r. r .next) (c .before .draw .ensures) ∙ ap (λ g. drawn g .next) (l .inv .1) in
+    (omega arith, next ∙ sym (ap after (add-one (l .k))))
 
 returns : tie.Need-returns Inv-loop μ-loop
 returns c =

@@ -13,7 +13,8 @@ use Rattle.trial.proofs.most_fewer.Tie as tie
 
 abbrev Inv-loop : tie.InvT-loop
 Inv-loop row n s most₀ j₀ top j =
-    (j ≤ n) × (top ≤ 9999) × (max top (most (worthWithout (rowWorth row) s) (upTo (n - j) j)) ≡ mostFewer n (rowWorth row) s)
+    let v = rowWorth row in
+    (j ≤ n) × (top ≤ 9999) × (max top (most (worthWithout v s) (upTo (n - j) j)) ≡ mostFewer n v s)
 
 abbrev μ-loop : tie.MeasureT-loop
 μ-loop row n s most₀ j₀ top j = n - j
@@ -36,8 +37,8 @@ loop-again c =
     let l = c .before .before .before in
     let z = l .before .before .args in
     let p = c .before .worth-without in
-    let next = most-more (z .n) (l .loop .j) (c .before .before .loop-test .taken) (worthWithout (rowWorth (z .row .now)) (z .s))
-    (l .loop .most) (c .if1 .most) _ (l .loop .inv .2) in
+    let f = worthWithout (rowWorth (z .row .now)) (z .s) in
+    let next = most-more (z .n) (l .loop .j) (c .before .before .loop-test .taken) f (l .loop .most) (c .if1 .most) _ (l .loop .inv .2) in
     ⊎-elim
     (λ w. (omega arith, omega (arith, p .ensures .most), next (omega (arith, p .ensures .is))))
     (λ w. (omega arith, omega arith, next (omega (arith, p .ensures .is))))

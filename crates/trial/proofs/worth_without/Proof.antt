@@ -39,7 +39,8 @@ mul-result c = search needs
 
 shared-slice-read-result : tie.Need-shared-slice-read-result
 shared-slice-read-result c =
-    omega (arith, c .before .before .bundles .ensures .is, pow-some (c .before .before .before .before .before .before .args .j))
+    let b = c .before .before in
+    omega (arith, b .bundles .ensures .is, pow-some (b .before .before .before .before .args .j))
 
 returns-3 : tie.Need-returns-3
 returns-3 c =
