@@ -6,7 +6,7 @@
 use std::hint::black_box;
 
 use comparison::reckoning::trial::{drawn_sheet, Trial};
-use comparison::timing;
+use comparison::timing::{median, nanoseconds};
 
 const REPETITIONS: usize = 21;
 const SHEETS: u32 = 5;
@@ -24,9 +24,17 @@ fn main() {
     let rust = || drawn_sheet(black_box(&TRIAL));
     assert_eq!(library().ok(), rust().ok());
 
+    let (mut by_library, mut by_rust) = (Vec::new(), Vec::new());
+    for _ in 0..REPETITIONS {
+        by_library.push(nanoseconds(SHEETS, library));
+        by_rust.push(nanoseconds(SHEETS, rust));
+    }
+    let (by_library, by_rust) = (median(by_library), median(by_rust));
     println!(
         "trial sheet of number {}, medians of {REPETITIONS} × {SHEETS} sheets",
         TRIAL.number
     );
-    timing::compare(REPETITIONS, SHEETS, library, rust);
+    println!("library: {:.1} ms", by_library / 1e6);
+    println!("Rust: {:.1} ms", by_rust / 1e6);
+    println!("library / Rust: {:.2}", by_library / by_rust);
 }
