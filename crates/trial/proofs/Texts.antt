@@ -24,7 +24,7 @@ use Rattle.writing.specs.declared.SheetText.{SheetText}
 use Rattle.writing.proofs.Answers.{sheet-length}
 use Rattle.writing.proofs.Limits.{bytes-small}
 use Rattle.trial.specs.Worths.{trialList}
-use Rattle.trial.specs.Answers.{trialFault, trialBytes, TrialSays, trialAsked, trialLines, trialText, textOf}
+use Rattle.trial.specs.Answers.{trialFault, trialBytes, TrialSays, trialAsked, trialLines, trialText, asText}
 use Rattle.trial.specs.Answers.{trialTextOf}
 use Rattle.trial.specs.Claims.{Typed}
 use Rattle.trial.proofs.Fields.{typed-asked, asked-typed}
@@ -81,19 +81,19 @@ module _ (N m n top : ℕ) where
         told-number N m n top zeros o′ w says
         ∙ ap (λ k. trialFault m n top k .number) (length-replicate {A = ℕ} 559 0)
 
-    pub lines-written : w .number ≡ 0 → textIn o′ (w .length) ≡ textOf (trialLines N m n top)
+    pub lines-written : w .number ≡ 0 → textIn o′ (w .length) ≡ asText (trialLines N m n top)
     lines-written z =
         let (long, bytes) = told-written N m n top zeros o′ w says z in
-        ap₂ textIn bytes long ∙ sym (ap textOf (accepted-lines (sym number-is ∙ z)))
+        ap₂ textIn bytes long ∙ sym (ap asText (accepted-lines (sym number-is ∙ z)))
 
     pub lines-refused : w .number ≢ 0 → (o″ : List ℕ) → o″ ≡ over (line (w .number) (w .place)) o′ →
-        textIn o″ 13 ≡ textOf (trialLines N m n top)
+        textIn o″ 13 ≡ asText (trialLines N m n top)
     lines-refused h o″ e =
         let kept = told-refused N m n top zeros o′ w says h .1 in
         ap₂ textIn
         (e ∙ ap (over (line (w .number) (w .place))) kept ∙ ap₂ (λ i j. over (line i j) zeros) number-is place-none)
         (sym (line-length (f .number ∷ 0 ∷ [])))
-        ∙ sym (ap textOf (refused-lines (λ z. h (number-is ∙ z))))
+        ∙ sym (ap asText (refused-lines (λ z. h (number-is ∙ z))))
 
 -- by whether the bytes are four numbers
 module _ (b : List ℕ) where
@@ -109,10 +109,10 @@ module _ (b : List ℕ) where
   text-lines e = ap (λ x. pick x sheetLines []) e
 
   pub text-by : trialAsked b ≡ true → (N m n top : ℕ) → N ≡ numberAt 0 b → m ≡ numberAt 6 b → n ≡ numberAt 12 b →
-      top ≡ numberAt 18 b → textOf (trialLines N m n top) ≡ trialTextOf b
+      top ≡ numberAt 18 b → asText (trialLines N m n top) ≡ trialTextOf b
   text-by e N m n top eN em en et =
-      ap₂ (λ x y. textOf (trialLines x y n top)) eN em
-      ∙ ap₂ (λ x y. textOf (trialLines (numberAt 0 b) (numberAt 6 b) x y)) en et ∙ sym (ap textOf (text-lines e))
+      ap₂ (λ x y. asText (trialLines x y n top)) eN em
+      ∙ ap₂ (λ x y. asText (trialLines (numberAt 0 b) (numberAt 6 b) x y)) en et ∙ sym (ap asText (text-lines e))
 
   pub text-longest : length (trialText b) ≤ 559
   text-longest =

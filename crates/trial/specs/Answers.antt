@@ -60,8 +60,8 @@ unfoldable pub trialText : List ℕ → List ℕ
 trialText b = pick (trialAsked b) (trialLines (numberAt 0 b) (numberAt 6 b) (numberAt 12 b) (numberAt 18 b)) []
 
 -- at the front of 559 bytes, of which the others are 0
-abbrev pub textOf : List ℕ → SheetText
-textOf t = record { bytes = over t (replicate 559 0); length = length t }
+abbrev pub asText : List ℕ → SheetText
+asText t = record { bytes = over t (replicate 559 0); length = length t }
 
 abbrev pub trialTextOf : List ℕ → SheetText
-trialTextOf b = textOf (trialText b)
+trialTextOf b = asText (trialText b)

@@ -4,7 +4,7 @@ ghost use Prim.Native.Nat.{ℕ, _+_, _≤_, _<_};
 ghost use lib.ListN.{length, getD};
 ghost use Rattle.numbers.specs.Numbers.{Is};
 ghost use Rattle.trial.specs.Worths.{rowWorth, worthWithout, mostFewer, raisedBy, mostWorths};
-ghost use Rattle.trial.specs.Answers.{TrialSays, trialAsked, trialLines, textOf, trialTextOf};
+ghost use Rattle.trial.specs.Answers.{TrialSays, trialAsked, trialLines, asText, trialTextOf};
 ghost use Rattle.trial.specs.Claims.{Trials};
 use lines::bundles;
 use numbers::has;
@@ -129,7 +129,7 @@ fn is_asked(numbers: &[u8]) -> bool
 
 // The trial sheet of four numbers, or the line of its refusal.
 fn text_of(number: u16, buyers: u32, lots: u32, top: u32) -> SheetText
-    ensures { λ r. ⌜ r ≡ textOf (trialLines number buyers lots top) ⌝ }
+    ensures { λ r. ⌜ r ≡ asText (trialLines number buyers lots top) ⌝ }
 {
     let mut bytes = [0u8; 559];
     let wrote = trial_sheet(number, buyers, lots, top, &mut bytes);

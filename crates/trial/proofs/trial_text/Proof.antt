@@ -4,7 +4,7 @@ use mathlib.Core.Bool.{true}
 use native.Mathlib.Omega.{arith}
 use borrow.Author.Needs.{needs}
 use borrow.Author.Tests.{not-true, not-false}
-use Rattle.trial.specs.Answers.{trialAsked, textOf}
+use Rattle.trial.specs.Answers.{trialAsked, asText}
 use Rattle.trial.proofs.Fields.{asked-means}
 use Rattle.trial.proofs.Texts.{text-none, text-by}
 use Rattle.trial.proofs.trial_text.Statement.{statement}
@@ -16,7 +16,7 @@ is-asked-requires c κs = search needs
 returns : tie.Need-returns
 returns c =
     let b = c .before .before .before .args .numbers .now in
-    sym (ap textOf (text-none b (sym (c .before .is-asked .ensures) ∙ not-true _ (c .if1 .taken))))
+    sym (ap asText (text-none b (sym (c .before .is-asked .ensures) ∙ not-true _ (c .if1 .taken))))
 
 -- the bytes are four numbers
 asked : (p : tie.Else1) → trialAsked (p .before .before .before .args .numbers .now) ≡ true
