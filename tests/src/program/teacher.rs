@@ -18,7 +18,7 @@ const SHEET: &str = "examples/table-3.sheet";
 
 /// The commands that make a sheet, and how often the page runs them.
 const MAKERS: [&str; 2] = ["./hokewhuni write ", "./hokewhuni trial "];
-const MADE: usize = 6;
+const MADE: usize = 7;
 
 pub fn compare(tally: &mut Tally) {
     tally.group("the teacher's page", |tally| {
