@@ -1,48 +1,22 @@
 -- A field says v exactly where its six columns are those in which v is written (`field-canonical`).
 -- Before the last k digits of w the number so far is w / 10 ^ k, and they are the digits of w % 10 ^ k. Assumes nothing.
-use mathlib.Core.Path.{_≡_, refl, sym, ap, subst, _∙_}
+use mathlib.Core.Path.{_≡_, refl, sym, ap, _∙_}
 use mathlib.Core.Logic.{_↔_}
 use mathlib.Core.List.{List, [], _∷_}
-use Prim.Native.Nat.{ℕ, zero, suc, _+_, _-_, _*_, _/_, _%_, _^_, _≤_, _<_}
+use Prim.Native.Nat.{ℕ, zero, suc, _+_, _*_, _/_, _%_, _^_, _≤_, _<_}
 use native.Mathlib.Omega.{arith}
-use native.Mathlib.Decide.{ℕ-discrete, decLe}
 use lib.Dec.{ltb}
 use lib.ListN.{length, take, drop, length-take, length-drop}
 use borrow.Author.Tests.{ltb-true, ltb-false, le-ltb}
 use Rattle.theory.proofs.Tests.{by-test}
 use Rattle.fields.specs.declared.Field.the-variants.{Number, Faulty}
-use Rattle.fields.specs.Fields.{classOf, digitsFrom, fieldFrom, fieldAt, digits, columns}
-use Rattle.fields.specs.Fields.Class.{Foreign}
-use Rattle.fields.proofs.Scan.{class-digit, class-low, class-high}
+use Rattle.fields.specs.Fields.{digitsFrom, fieldFrom, fieldAt, digits, columns}
+use Rattle.fields.proofs.Scan.{by-class, digit-late, digit-first}
 use Rattle.fields.proofs.Digits.{digit-small, digit-some, next-small, next-digit, other-digits}
 use Rattle.fields.proofs.Digits.{columns-blank, columns-full}
 
--- a byte is a blank, a digit, or foreign
-by-class : (P : ℕ → Type 0) (b : ℕ) → P 32 → ((d : ℕ) → d < 10 → P (48 + d)) → (classOf b ≡ Foreign → P b) → P b
-by-class P b blank digit foreign =
-    elim (ℕ-discrete b 32) [
-      | yes e ↦ rw e blank
-      | no n ↦
-          elim (decLe 48 b) [
-            | no m ↦ foreign (class-low b (omega arith) n)
-            | yes h ↦
-                elim (decLe b 57) [
-                  | no m ↦ foreign (class-high b (omega arith))
-                  | yes g ↦ let e : 48 + (b - 48) ≡ b = omega arith in subst P e (digit (b - 48) (omega arith))
-                ]
-          ]
-    ]
-
 pub no-number : {P : Type 0} {at v : ℕ} → Faulty at ≡ Number v → P
 no-number e = absurd (let z : _≡_ {A = ℕ} 0 1 = cc in omega arith)
-
--- one digit, after others and as the first
-digit-late : (at v d : ℕ) (bs : List ℕ) → d < 10 → digitsFrom at v ((48 + d) ∷ bs) ≡ digitsFrom at (10 * v + d) bs
-digit-late at v zero bs h = refl
-digit-late at v (suc d) bs h = rw (digitsFrom, class-digit (48 + suc d) (omega arith) (omega arith)) (ap (λ n. digitsFrom at n bs) (omega arith))
-
-digit-first : (at d : ℕ) (bs : List ℕ) → 1 ≤ d → d < 10 → fieldFrom at ((48 + d) ∷ bs) ≡ digitsFrom at d bs
-digit-first at d bs l h = rw (fieldFrom, class-digit (48 + d) (omega arith) (omega arith)) (ap (λ n. digitsFrom at n bs) (omega arith))
 
 -- a number's last k digits, after the others
 digits-read : (at k w : ℕ) → digitsFrom at (w / 10 ^ k) (digits k (w % 10 ^ k)) ≡ Number w

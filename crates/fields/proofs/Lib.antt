@@ -1,6 +1,9 @@
--- Laws of fields: how they are read column by column (Scan), the digits of a number (Digits), in which columns it is
--- written (Canonical), and of written lines (Lines).
+-- Laws of fields: bytes, and what each does to a reading (Scan); the digits of a number (Digits), and in which columns
+-- it is written (Canonical); the sum of a field's digits, and what is claimed of it (Sums); the loop over the columns
+-- (Columns); written lines (Lines).
 pub mod Scan
 pub mod Digits
 pub mod Canonical
+pub mod Sums
+pub mod Columns
 pub mod Lines

@@ -1,15 +1,18 @@
 -- Fields of a lot sheet (rules 2.2 to 2.5): a number at the right of six columns. Offers the classes of bytes, the
--- field at a column (`fieldAt`), what reading one field answers (`fieldRead`), and the columns in which a number is
--- written (`columns`).
-use mathlib.Core.Bool.{Bool, true, false, _&&_}
+-- field at a column (`fieldAt`), what reading one field answers (`fieldRead`), what is known after some of its columns
+-- (`runningAt`), and the columns in which a number is written (`columns`).
+use mathlib.Core.Bool.{Bool, true, false, not, _&&_}
 use mathlib.Core.List.{List, [], _∷_, _++_}
 use Prim.Native.Nat.{ℕ, zero, suc, _+_, _-_, _*_, _/_, _%_, _^_}
 use lib.Dec.{eqb, ltb, leb}
-use lib.ListN.{length, take, drop}
-use Rattle.theory.specs.Sums.{pick}
+use lib.ListN.{length, take, drop, getD}
+use Rattle.theory.specs.Sums.{pick, when}
+use Rattle.theory.specs.Tests.{some}
+use Rattle.theory.specs.Lists.{keep, upTo}
 use Rattle.fields.specs.declared.Field.{Field}
 use Rattle.fields.specs.declared.Field.the-variants.{Number, Faulty}
 use Rattle.fields.specs.declared.FieldRead.{FieldRead}
+use Rattle.fields.specs.declared.Running.{Running}
 
 -- rule 2.3: the classes of bytes
 pub data Class : Type 0 where
@@ -63,6 +66,35 @@ numberOf (Faulty at) = 0
 
 abbrev pub numberAt : ℕ → List ℕ → ℕ
 numberAt at b = numberOf (fieldAt at b)
+
+-- a decimal digit: the zero too
+abbrev pub isDigit : ℕ → Bool
+isDigit b = onClass (classOf b) false true true false
+
+-- the sum of the digits, each times 10 ^ k where k of them come after it
+abbrev pub digitsSum : List ℕ → ℕ
+digitsSum [] = 0
+digitsSum (b ∷ bs) = when (isDigit b) ((b - 48) * 10 ^ length (keep isDigit bs)) + digitsSum bs
+
+-- whether a byte breaks rule 2.2, by whether a digit comes before it, and a column after it: a blank after a digit, a
+-- zero that is the first digit and not in the last column, a foreign byte
+abbrev pub breaksRule : Bool → Bool → ℕ → Bool
+breaksRule before after b = onClass (classOf b) before (not before && after) false true
+
+-- whether column j does, counted from 0
+abbrev pub breaks : List ℕ → ℕ → Bool
+breaks l j = breaksRule (some isDigit (take j l)) (ltb (suc j) (length l)) (getD l j 0)
+
+-- whether one of the first k columns does. Six blanks break none
+abbrev pub brokenBy : ℕ → List ℕ → Bool
+brokenBy k l = some (breaks l) (upTo k 0)
+
+-- what is known after the first k columns: that one is broken, or whether there is a digit, and the sum
+abbrev pub runningAt : ℕ → List ℕ → Running
+runningAt k l =
+    let broken : Running = record { broken = true; begun = false; value = 0 } in
+    let whole : Running = record { broken = false; begun = some isDigit (take k l); value = digitsSum (take k l) } in
+    pick (brokenBy k l) broken whole
 
 -- the k digits of a number below 10 ^ k, and the number in k columns: a blank for each digit that it lacks, but for the last
 abbrev pub digits : ℕ → ℕ → List ℕ

@@ -1,2 +1,3 @@
 -- The fields of a lot sheet.
 pub mod Fields
+pub mod Claims

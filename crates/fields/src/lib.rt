@@ -2,7 +2,8 @@
 ghost use mathlib.Core.Path.{_≡_};
 ghost use Prim.Native.Nat.{_+_, _≤_};
 ghost use lib.ListN.{length, take, drop, getD};
-ghost use Rattle.fields.specs.Fields.{fieldFrom, fieldAt, fieldRead, good, numberAt};
+ghost use Rattle.fields.specs.Claims.{Fields};
+ghost use Rattle.fields.specs.Fields.{fieldFrom, fieldAt, fieldRead, good, numberAt, runningAt};
 
 // A field's number, or the faulty offset: that of the field's first byte.
 pub enum Field {
@@ -23,44 +24,63 @@ fn wide(b: u8) -> u32
     b as u32
 }
 
+// What is known after the first columns of a field: whether one of them breaks rule 2.2; if none does, whether there is
+// a digit among them, and the number so far.
+struct Running {
+    broken: bool,
+    begun: bool,
+    value: u32,
+}
+
+// The first `count` of a field's six columns, with a running value: 0 at first, and at each digit ten times itself plus
+// the digit.
+fn read_columns(sheet: &[u8], at: usize, count: usize) -> Running
+    requires { ⌜ (at + 6 ≤ length (now sheet)) × (count ≤ 6) ⌝ }
+    ensures { λ r. ⌜ (r ≡ runningAt count (take 6 (drop at (now (sheet .entry))))) × (r .value ≤ 999999) ⌝ }
+{
+    let mut begun = false;
+    let mut value: u32 = 0;
+    let mut k = 0;
+    while k < count {
+        let b = sheet[at + k];
+        let breaks = match b {
+            32 => begun,
+            48 => !begun && k + 1 < 6,
+            49..=57 => false,
+            _ => true,
+        };
+        if breaks {
+            return Running {
+                broken: true,
+                begun: false,
+                value: 0,
+            };
+        }
+        if b != 32 {
+            let digit = wide(b - 48);
+            begun = true;
+            value = 10 * value + digit;
+        }
+        k += 1;
+    }
+    Running {
+        broken: false,
+        begun: begun,
+        value: value,
+    }
+}
+
 // The six columns of a field.
 fn scan_columns(sheet: &[u8], at: usize) -> Field
     requires { ⌜ at + 6 ≤ length (now sheet) ⌝ }
     ensures { λ r. ⌜ r ≡ fieldFrom at (take 6 (drop at (now (sheet .entry)))) ⌝ }
 {
-    let end = at + 6;
-    let mut started = false;
-    let mut value: u32 = 0;
-    let mut k = at;
-    while k < end {
-        let b = sheet[k];
-        match b {
-            32 => {
-                if started {
-                    return Field::Faulty(at);
-                }
-            }
-            48 => {
-                if !started {
-                    if k + 1 < end {
-                        return Field::Faulty(at);
-                    }
-                }
-                started = true;
-                value = 10 * value;
-            }
-            49..=57 => {
-                started = true;
-                value = 10 * value + wide(b - 48);
-            }
-            _ => {
-                return Field::Faulty(at);
-            }
-        }
-        k += 1;
+    let r = read_columns(sheet, at, 6);
+    if r.broken {
+        return Field::Faulty(at);
     }
-    if started {
-        Field::Number(value)
+    if r.begun {
+        Field::Number(r.value)
     } else {
         Field::Faulty(at)
     }
@@ -115,3 +135,8 @@ pub fn byte_at(sheet: &[u8], at: usize) -> u8
 {
     if at < sheet.len() { sheet[at] } else { 0 }
 }
+
+// Does nothing. Its contract has what is claimed of fields, so that none of it can be dropped unseen.
+pub fn fields_hold()
+    ensures { λ _. ⌜ Fields ⌝ }
+{}
