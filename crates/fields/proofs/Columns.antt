@@ -18,7 +18,7 @@ use Rattle.theory.proofs.Lists.{upTo-in}
 use Rattle.fields.specs.declared.Field.the-variants.{Number, Faulty}
 use Rattle.fields.specs.declared.Running.{Running}
 use Rattle.fields.specs.Fields.{fieldFrom, isDigit, digitsSum, breaksRule, breaks, brokenBy, runningAt}
-use Rattle.fields.proofs.Scan.{or-true, digit-range, digit-left, one-more, next}
+use Rattle.fields.proofs.Scan.{or-true, digit-range, unbroken-digit, one-more, next}
 use Rattle.fields.proofs.Sums.{six-long, begun-more, broken-more, sum-more, field-sum}
 
 -- what the loop knows after k columns that break nothing
@@ -71,7 +71,7 @@ module _ (s : List ℕ) (at k : ℕ) (f : Bool) (v : ℕ) (room : at + 6 ≤ len
       rw (add-one, none) (rw (z, none) at (more e))
 
   pub digit-more : breaksRule f (ltb (k + 1) 6) b ≡ false → (b ≡ 32 → ⊥) → SoFar six (k + 1) true (10 * v + (b - 48))
-  digit-more e z = rw add-one (rw (digit-left f (ltb (k + 1) 6) b e z, or-true) at (more e))
+  digit-more e z = rw add-one (rw (unbroken-digit f (ltb (k + 1) 6) b e z, or-true) at (more e))
 
   pub running-broken : (n : ℕ) → k < n → breaksRule f (ltb (k + 1) 6) b ≡ true →
       record { broken = true; begun = false; value = 0 } ≡ runningAt n six

@@ -72,8 +72,8 @@ module _ (f a : Bool) (b : ℕ) where
   rule-foreign c = rw c refl
 
 -- a byte that breaks nothing, and is no blank
-pub digit-left : (f a : Bool) (b : ℕ) → breaksRule f a b ≡ false → (b ≡ 32 → ⊥) → isDigit b ≡ true
-digit-left f a b =
+pub unbroken-digit : (f a : Bool) (b : ℕ) → breaksRule f a b ≡ false → (b ≡ 32 → ⊥) → isDigit b ≡ true
+unbroken-digit f a b =
     by-class (λ b. breaksRule f a b ≡ false → (b ≡ 32 → ⊥) → isDigit b ≡ true) b
     (λ e n. absurd (n refl))
     (λ d h e n. digit-is d h)
@@ -141,8 +141,8 @@ column-faults f at v b bs =
 pub one-more : (n v d : ℕ) → v < 10 ^ n → d < 10 → 10 * v + d < 10 ^ suc n
 one-more n v d h g = rw pow-suc (omega arith)
 
-pub at-most : (n m v : ℕ) → n ≤ m → v < 10 ^ n → v < 10 ^ m
-at-most n m v h g = omega (arith, pow-le-pow-right {n = 10} (lit< tt) h)
+pub few-digits : (n m v : ℕ) → n ≤ m → v < 10 ^ n → v < 10 ^ m
+few-digits n m v h g = omega (arith, pow-le-pow-right {n = 10} (lit< tt) h)
 
 -- what reading a field answers where six bytes are left, and where fewer are
 pub six-left : (s : List ℕ) (at : ℕ) (f : Field) → at + 6 ≤ length s → f ≡ fieldFrom at (take 6 (drop at s)) → record { next = at + 6; field = f } ≡ fieldRead s at

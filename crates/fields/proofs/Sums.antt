@@ -67,9 +67,9 @@ sum-last (x ∷ l) b =
 
 running-step : (l : List ℕ) (d : ℕ) → d < 10 → digitsSum (l ++ ((48 + d) ∷ [])) ≡ 10 * digitsSum l + d
 running-step l d h =
-    let next : digitsSum (l ++ ((48 + d) ∷ [])) ≡ 10 * digitsSum l + (48 + d - 48) =
+    let step : digitsSum (l ++ ((48 + d) ∷ [])) ≡ 10 * digitsSum l + (48 + d - 48) =
     rw (digit-is d h) at (sum-last l (48 + d)) in
-    omega (arith, next)
+    omega (arith, step)
 
 running-blank : (l : List ℕ) → digitsSum (l ++ (32 ∷ [])) ≡ digitsSum l
 running-blank l = sum-last l 32

@@ -9,7 +9,7 @@ use lib.Dec.{ltb}
 use lib.ListN.{length, take, drop, getD}
 use borrow.Author.Needs.{needs}
 use Rattle.fields.specs.Fields.{breaksRule}
-use Rattle.fields.proofs.Scan.{class-low, class-high, digit-range, digit-left, at-most}
+use Rattle.fields.proofs.Scan.{class-low, class-high, digit-range, unbroken-digit, few-digits}
 use Rattle.fields.proofs.Scan.{rule-blank, rule-zero, rule-digit, rule-foreign}
 use Rattle.fields.proofs.Columns.{SoFar, so-far-none, blank-more, digit-more, running-broken, running-whole}
 use Rattle.fields.proofs.read_columns.Statement.{statement}
@@ -63,7 +63,7 @@ module _ (j : tie.At-match-came Inv-loop μ-loop) where
   short = omega arith
 
   small : v < 10 ^ 5
-  small = at-most k 5 v (omega arith) (so-far .small)
+  small = few-digits k 5 v (omega arith) (so-far .small)
 
   -- what the match finds
   told : j .match .breaks ≡ breaksRule f (ltb (k + 1) 6) b
@@ -92,7 +92,7 @@ whole e = sym (told (e .before)) ∙ e .if4 .left
 digit : (e : tie.Then5 Inv-loop μ-loop) → (48 ≤ b (e .before .before)) × (b (e .before .before) < 58)
 digit e =
     let j = e .before .before in
-    let some = digit-left (f j) (ltb (k j + 1) 6) (b j) (whole (e .before)) (λ z. omega (arith, z, e .if5 .taken)) in
+    let some = unbroken-digit (f j) (ltb (k j + 1) 6) (b j) (whole (e .before)) (λ z. omega (arith, z, e .if5 .taken)) in
     digit-range (b j) some
 
 sub-wide : tie.Need-sub-wide Inv-loop μ-loop
@@ -134,7 +134,7 @@ returns-2 c =
     let v = c .before .loop .value in
     let h : c .before .loop .k ≡ z .count = omega arith in
     let x = rw h at (c .before .loop .inv .1) in
-    let small = at-most (z .count) 6 v (omega arith) (x .small) in
+    let small = few-digits (z .count) 6 v (omega arith) (x .small) in
     (running-whole (take 6 (drop (z .at) (z .sheet .now))) (z .count) f v x, omega (arith, small))
 
 pub read-columns-spec : {M : Type 1} → statement M
