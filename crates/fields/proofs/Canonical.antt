@@ -6,12 +6,12 @@ use mathlib.Core.List.{List, [], _∷_}
 use Prim.Native.Nat.{ℕ, zero, suc, _+_, _*_, _/_, _%_, _^_, _≤_, _<_}
 use native.Mathlib.Omega.{arith}
 use lib.Dec.{ltb}
-use lib.ListN.{length, take, drop, length-take, length-drop}
+use lib.ListN.{length, take, drop}
 use borrow.Author.Tests.{ltb-true, ltb-false, le-ltb}
 use Rattle.theory.proofs.Tests.{by-test}
 use Rattle.fields.specs.declared.Field.the-variants.{Number, Faulty}
 use Rattle.fields.specs.Fields.{digitsFrom, fieldFrom, fieldAt, digits, columns}
-use Rattle.fields.proofs.Scan.{by-class, digit-late, digit-first}
+use Rattle.fields.proofs.Scan.{by-class, digit-late, digit-first, six-long}
 use Rattle.fields.proofs.Digits.{digit-small, digit-some, next-small, next-digit, other-digits}
 use Rattle.fields.proofs.Digits.{columns-blank, columns-full}
 
@@ -78,7 +78,7 @@ pub field-canonical : (s : List ℕ) (at v : ℕ) → (fieldAt at s ≡ Number v
 field-canonical s at v = (
   λ e. by-test (ltb (length s) (at + 6)) (λ t. no-number (rw t at e)) (λ t.
       let room = ltb-false (length s) (at + 6) t in
-      let six : length (take 6 (drop at s)) ≡ 6 = simp (length-take, length-drop) (omega arith) in
+      let six = six-long s at room in
       let (some, small, same) = columns-written at v (take 6 (drop at s)) (rw t at e) in
       let small : v < 10 ^ 6 = rw six at small in
       (room, omega arith, rw six at same)),

@@ -1,7 +1,7 @@
 -- The loop over a field's columns: what it knows after some of them (`SoFar`), with a blank and with a digit more, what
 -- it answers, and the field by its answer for six columns (`field-running`). Assumes nothing.
 use mathlib.Core.Path.{_≡_, refl, _∙_}
-use mathlib.Core.Bool.{Bool, true, false, _||_}
+use mathlib.Core.Bool.{Bool, true, false, _||_, or-true}
 use mathlib.Core.List.{List}
 use Prim.Native.Nat.{ℕ, suc, _+_, _-_, _*_, _^_, _≤_, _<_}
 use native.Mathlib.Nat.{pow-suc}
@@ -18,8 +18,8 @@ use Rattle.theory.proofs.Lists.{upTo-in}
 use Rattle.fields.specs.declared.Field.the-variants.{Number, Faulty}
 use Rattle.fields.specs.declared.Running.{Running}
 use Rattle.fields.specs.Fields.{fieldFrom, isDigit, digitsSum, breaksRule, breaks, brokenBy, runningAt}
-use Rattle.fields.proofs.Scan.{or-true, digit-range, unbroken-digit, one-more, next}
-use Rattle.fields.proofs.Sums.{six-long, begun-more, broken-more, sum-more, field-sum}
+use Rattle.fields.proofs.Scan.{digit-range, unbroken-digit, one-more, six-long, next}
+use Rattle.fields.proofs.Sums.{begun-more, broken-more, sum-more, field-sum}
 
 -- what the loop knows after k columns that break nothing
 pub record SoFar (l : List ℕ) (k : ℕ) (f : Bool) (v : ℕ) : Type 0 where

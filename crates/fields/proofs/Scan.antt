@@ -2,14 +2,14 @@
 -- (`scan`). Offers the classes of bytes, which of them break rule 2.2 (`rule-blank`, ..), what each does to a reading
 -- (`column-goes`, `column-faults`), and the bound of a number with so many digits. Assumes nothing.
 use mathlib.Core.Path.{_≡_, refl, sym, ap, subst, _∙_}
-use mathlib.Core.Bool.{Bool, true, false, not, _&&_, _||_}
+use mathlib.Core.Bool.{Bool, true, false, not, _&&_, _||_, or-true}
 use mathlib.Core.List.{List, [], _∷_}
 use Prim.Native.Nat.{ℕ, zero, suc, _+_, _-_, _*_, _^_, _≤_, _<_}
 use native.Mathlib.Nat.{pow-suc, pow-le-pow-right}
 use native.Mathlib.Omega.{arith}
 use native.Mathlib.Decide.{ℕ-discrete, decLe}
 use lib.Dec.{ltb, lit<}
-use lib.ListN.{length, take, drop}
+use lib.ListN.{length, take, drop, length-take, length-drop}
 use borrow.Author.Tests.{le-leb, lt-leb, ne-eqb, le-ltb, lt-ltb}
 use Rattle.theory.specs.Sums.{pick}
 use Rattle.theory.proofs.Tests.{by-test, fails}
@@ -79,10 +79,6 @@ unbroken-digit f a b =
     (λ d h e n. digit-is d h)
     (λ c e n. fails (rw c) e)
 
-pub or-true : (f : Bool) → (f || true) ≡ true
-or-true true = refl
-or-true false = refl
-
 -- where a reading stands: whether there was a digit, and the number so far
 abbrev pub scan : Bool → ℕ → ℕ → List ℕ → Field
 scan true at v l = digitsFrom at v l
@@ -143,6 +139,10 @@ one-more n v d h g = rw pow-suc (omega arith)
 
 pub few-digits : (n m v : ℕ) → n ≤ m → v < 10 ^ n → v < 10 ^ m
 few-digits n m v h g = omega (arith, pow-le-pow-right {n = 10} (lit< tt) h)
+
+-- the six columns of a field
+pub six-long : (s : List ℕ) (at : ℕ) → at + 6 ≤ length s → length (take 6 (drop at s)) ≡ 6
+six-long s at h = simp (length-take, length-drop) (omega arith)
 
 -- what reading a field answers where six bytes are left, and where fewer are
 pub six-left : (s : List ℕ) (at : ℕ) (f : Field) → at + 6 ≤ length s → f ≡ fieldFrom at (take 6 (drop at s)) → record { next = at + 6; field = f } ≡ fieldRead s at

@@ -8,7 +8,7 @@ use Prim.Native.Nat.{ℕ, zero, suc, _+_, _-_, _*_, _^_, _≤_, _<_}
 use native.Mathlib.Nat.{pow-suc}
 use native.Mathlib.Omega.{arith}
 use lib.Dec.{ltb}
-use lib.ListN.{length, take, drop, getD, length-take, length-drop}
+use lib.ListN.{length, take, drop, getD, length-drop}
 use lib.Seq.{take-suc, drop-cons, take-length, drop-length}
 use borrow.Author.Tests.{ltb-true, ltb-false, lt-ltb, le-ltb}
 use Rattle.theory.specs.Sums.{pick, when}
@@ -20,7 +20,7 @@ use Rattle.fields.specs.declared.Field.{Field}
 use Rattle.fields.specs.declared.Field.the-variants.{Number, Faulty}
 use Rattle.fields.specs.Fields.{fieldFrom, fieldAt, numberOf, isDigit, digitsSum, breaks, brokenBy}
 use Rattle.fields.specs.Claims.{Fields, valuesAfter, brokenAfter}
-use Rattle.fields.proofs.Scan.{digit-is, scan, next, column-goes, column-faults}
+use Rattle.fields.proofs.Scan.{digit-is, six-long, scan, next, column-goes, column-faults}
 use Rattle.fields.proofs.Canonical.{no-number}
 
 -- by computing
@@ -138,9 +138,6 @@ pub field-sum : (at : ℕ) (l : List ℕ) →
 field-sum at l =
     let whole = rw (take-length, drop-length) at (left-field at l (length l) (omega arith)) in
     whole ∙ ap (pick (brokenBy (length l) l) (Faulty at)) (by-test (some isDigit l) (λ e. rw e) (λ e. rw e))
-
-pub six-long : (s : List ℕ) (at : ℕ) → at + 6 ≤ length s → length (take 6 (drop at s)) ≡ 6
-six-long s at h = simp (length-take, length-drop) (omega arith)
 
 -- the columns have the number v
 number-means : (at v : ℕ) (l : List ℕ) →

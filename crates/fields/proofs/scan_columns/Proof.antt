@@ -6,7 +6,7 @@ use borrow.Author.Needs.{needs}
 use Rattle.theory.specs.Sums.{pick}
 use Rattle.fields.specs.declared.Field.the-variants.{Number, Faulty}
 use Rattle.fields.specs.Fields.{fieldFrom}
-use Rattle.fields.proofs.Sums.{six-long}
+use Rattle.fields.proofs.Scan.{six-long}
 use Rattle.fields.proofs.Columns.{field-running}
 use Rattle.fields.proofs.scan_columns.Statement.{statement}
 use Rattle.fields.proofs.scan_columns.Tie as tie
