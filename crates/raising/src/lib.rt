@@ -1,12 +1,16 @@
-// What buyers have left of their worths at prices, and the raise of a round.
+// What buyers have left of their worths at prices, and the raise of a round: of prices, and of what a sale keeps.
 ghost use mathlib.Core.Path.{_≡_};
-ghost use Prim.Native.Nat.{ℕ, _+_, _-_, _*_, _/_, _≤_, _<_};
+ghost use Prim.Native.Nat.{ℕ, _^_, _≤_, _<_};
+ghost use lib.ListN.{length};
 ghost use Rattle.numbers.specs.Numbers.{Is};
 ghost use Rattle.owners.specs.Owners.{member};
 ghost use Rattle.owners.specs.Prices.{plain};
-ghost use Rattle.owners.specs.Quick.{left, rising, raisedBy};
+ghost use Rattle.owners.specs.Quick.{left, raisedBy};
 ghost use Rattle.owners.specs.Singles.{worth, AtMost};
-ghost use Rattle.supply.specs.Supply.{owed};
+ghost use Rattle.supply.specs.Supply.{owed, NextPayoffs, NextGains, NextRevenues, Keens, SmallGains, SmallRevenues};
+ghost use Rattle.raising.specs.Raising.{raisedRow, Common, AllBut};
+use numbers::has;
+use numbers::power;
 use numbers::wide;
 use supply::is_member;
 
@@ -35,58 +39,102 @@ pub fn payoffs(worths: &[u16; 96], prices: &[u16; 96], buyers: usize, top: usize
     left
 }
 
-// Whether the price at place k rises: a member's, for a bundle that it demands.
-fn rises(
-    worths: &[u16; 96],
-    payoffs: &[u32; 6],
-    buyers: usize,
-    all: usize,
-    set: usize,
-    k: usize,
-) -> bool
-    requires { ⌜ (buyers ≤ 6) × (all ≤ 16) × (k < 96) ⌝ }
-    ensures { λ r. ⌜ r ≡ rising (plain buyers) all (worth (now (worths .entry))) (member set) (owed (now (payoffs .entry))) (k / 16) (k - 16 * (k / 16)) ⌝ }
+// Raises the prices of buyer i, which has so much left, for the bundles that it demands.
+fn raise_row(worths: &[u16; 96], prices: &mut [u16], i: usize, all: usize, left: u32)
+    requires { ⌜ (1 ≤ i) × (i ≤ 6) × (1 ≤ all) × (all ≤ 16) × (length (now prices) ≡ 96) × AtMost 60001 (now prices) ⌝ }
+    ensures { λ _. ⌜ now (prices .exit) ≡ raisedRow all (now (worths .entry)) i left (now (prices .entry)) ⌝ }
 {
-    let j = k / 16;
-    let s = k - 16 * j;
-    if buyers <= j {
-        return false;
-    }
-    if s < 1 {
-        return false;
-    }
-    if all <= s {
-        return false;
-    }
-    if is_member(set, j + 1) {
-        payoffs[j] <= wide(worths[k])
-    } else {
-        false
+    let mut s: usize = 1;
+    while s < all {
+        let at = 16 * (i - 1) + s;
+        let p = prices[at];
+        prices[at] = if left <= wide(worths[at]) { p + 1 } else { p };
+        s += 1;
     }
 }
 
-// The prices after a round: each member's rise by 1 for the bundles that it demands (rule 4.11).
+// Raises the prices of each member for the bundles that it demands (rule 4.11).
 pub fn raise(
     worths: &[u16; 96],
     payoffs: &[u32; 6],
-    prices: [u16; 96],
+    prices: &mut [u16],
     buyers: usize,
     all: usize,
     set: usize,
-) -> [u16; 96]
-    requires { ⌜ (buyers ≤ 6) × (all ≤ 16) × AtMost 60000 prices ⌝ }
-    ensures { λ r. ⌜ r ≡ raisedBy (plain buyers) all (worth (now (worths .entry))) (member set) (owed (now (payoffs .entry))) prices ⌝ }
+)
+    requires { ⌜ (buyers ≤ 6) × (1 ≤ all) × (all ≤ 16) × (length (now prices) ≡ 96) × AtMost 60000 (now prices) ⌝ }
+    ensures { λ _. ⌜ now (prices .exit)
+        ≡ raisedBy (plain buyers) all (worth (now (worths .entry))) (member set) (owed (now (payoffs .entry)))
+        (now (prices .entry)) ⌝ }
 {
-    let mut next = prices;
+    let mut i: usize = 1;
+    while i <= buyers {
+        if is_member(set, i) {
+            raise_row(worths, prices, i, all, payoffs[i - 1]);
+        }
+        i += 1;
+    }
+}
+
+// Takes 1 from what each member has left.
+pub fn lower_payoffs(payoffs: &mut [u32; 6], buyers: usize, set: usize)
+    requires { ⌜ (buyers ≤ 6) × (length (now payoffs) ≡ 6) × AtMost 9999 (now payoffs)
+        × Keens buyers (now payoffs) set ⌝ }
+    ensures { λ _. ⌜ (length (now (payoffs .exit)) ≡ 6) × AtMost 9999 (now (payoffs .exit))
+        × NextPayoffs buyers (now (payoffs .entry)) set (now (payoffs .exit)) ⌝ }
+{
+    let mut i: usize = 0;
+    while i < buyers {
+        let p = payoffs[i];
+        payoffs[i] = if is_member(set, i + 1) { p - 1 } else { p };
+        i += 1;
+    }
+}
+
+// How many members two sets have in common.
+fn common(set: usize, other: usize) -> u32
+    requires { ⌜ set < 64 ⌝ }
+    ensures { λ r. ⌜ Common set other r ⌝ }
+{
+    u32::count_ones((other & set) as u32)
+}
+
+// Adds to each set's gain how many members of the raised set it has.
+pub fn raise_gains(gains: &mut [u32; 64], buyers: usize, sets: usize, set: usize)
+    requires { ⌜ (buyers ≤ 6) × Is (2 ^ buyers) sets 64 × (set < 2 ^ buyers) × (length (now gains) ≡ 64)
+        × SmallGains buyers (now gains) ⌝ }
+    ensures { λ _. ⌜ (length (now (gains .exit)) ≡ 64)
+        × NextGains buyers (now (gains .entry)) set (now (gains .exit)) ⌝ }
+{
     let mut k: usize = 0;
-    while k < 96 {
-        let p = prices[k];
-        next[k] = if rises(worths, payoffs, buyers, all, set, k) {
-            p + 1
-        } else {
-            p
-        };
+    while k < sets {
+        gains[k] = gains[k] + common(set, k);
         k += 1;
     }
-    next
+}
+
+// The set of all six but the absent buyer, of all for 0.
+fn all_but(absent: usize) -> usize
+    requires { ⌜ absent ≤ 6 ⌝ }
+    ensures { λ r. ⌜ AllBut absent r ⌝ }
+{
+    if absent == 0 {
+        return 63;
+    }
+    63 - power(absent - 1)
+}
+
+// Adds to each economy's revenue how many members are present, less 1 if its word has not the set.
+pub fn raise_revenues(revenues: &mut [u32; 7], words: &[u64; 7], buyers: usize, set: usize)
+    requires { ⌜ (buyers ≤ 6) × (set < 2 ^ buyers) × (length (now revenues) ≡ 7)
+        × SmallRevenues buyers (now revenues) ⌝ }
+    ensures { λ _. ⌜ (length (now (revenues .exit)) ≡ 7)
+        × NextRevenues buyers (now (revenues .entry)) (now (words .entry)) set (now (revenues .exit)) ⌝ }
+{
+    let mut e: usize = 0;
+    while e <= buyers {
+        let up = revenues[e] + common(set, all_but(e));
+        revenues[e] = if has(words[e], set) { up } else { up - 1 };
+        e += 1;
+    }
 }

@@ -1,23 +1,26 @@
--- Equal payoffs give equal answers (`chosen-at`, `stepped-at`), and a raise adds at most 1 (`step-small`). Assumes nothing.
-use mathlib.Core.Path.{_≡_, ap, _∙_}
-use mathlib.Core.Bool.{Bool, true, false}
+-- Equal payoffs give equal answers (`chosen-at`, `stepped-at`), a raise adds at most 1 (`step-small`), and it takes 1
+-- from what each member has left (`left-step`). Assumes nothing.
+use mathlib.Core.Path.{_≡_, refl, ap, _∙_}
+use mathlib.Core.Bool.{Bool, true, false, _&&_}
 use mathlib.Core.List.{List}
-use Prim.Native.Nat.{ℕ, zero, suc, _+_, _-_, _*_, _/_, _≤_}
+use Prim.Native.Nat.{ℕ, suc, _+_, _-_, _*_, _/_, _≤_, _<_}
+use native.Mathlib.Nat.{zero-add}
 use native.Mathlib.Omega.{arith}
 use lib.Dec.{ltb}
 use lib.ListN.{getD}
-use borrow.Author.Tests.{ltb-true}
+use borrow.Author.Tests.{ltb-true, lt-ltb, le-leb, ne-eqb}
 use Rattle.theory.specs.Sums.{when, Among}
-use Rattle.theory.specs.Lists.{tabulate}
+use Rattle.theory.specs.Markets.{Table, lower}
 use Rattle.theory.specs.Coalitions.{lowestBy}
 use Rattle.theory.proofs.Tests.{by-test}
-use Rattle.theory.proofs.Lists.{tabulate-same}
+use Rattle.theory.proofs.Lists.{tabulate-at, tabulate-same}
 use Rattle.theory.proofs.Coalitions.{lowest-same}
 use Rattle.owners.specs.Owners.{member}
 use Rattle.owners.specs.Prices.{plain}
 use Rattle.owners.specs.Quick.{left, rising, risenAt, raisedBy, roster}
 use Rattle.owners.specs.Singles.{worth, AtMost}
 use Rattle.supply.specs.Supply.{shift, at, owed}
+use Rattle.raising.proofs.Rising.{raised-small}
 use Rattle.rounds.specs.Rounds.{lowestAt, stepAt}
 
 -- payoffs that are the same for the buyers
@@ -44,18 +47,51 @@ module _ (m top : ℕ) (ws ps r : List ℕ) (same : (i : ℕ) → 1 ≤ i → i 
       (λ k _. ap (λ b. getD ps k 0 + when b 1) (rising-same all x (k / 16) (k - 16 * (k / 16))))
 
 -- a raise adds at most 1
-when-one : (b : Bool) → when b 1 ≤ 1
-when-one true = omega arith
-when-one false = omega arith
-
-tabulate-small : (k s c : ℕ) (f : ℕ → ℕ) → ((i : ℕ) → f i ≤ c) → AtMost c (tabulate k s f)
-tabulate-small zero s c f h j = omega arith
-tabulate-small (suc k) s c f h zero = h s
-tabulate-small (suc k) s c f h (suc j) = tabulate-small k (suc s) c f h j
-
 pub step-small : (m all : ℕ) (ws : List ℕ) (x c : ℕ) (ps : List ℕ) → AtMost c ps → AtMost (c + 1) (stepAt m all ws x ps)
-unfolding raisedBy
 step-small m all ws x c ps h =
-    let π = left (plain m) (worth ws) (all - 1) ps in
-    tabulate-small 96 0 (c + 1) (risenAt (plain m) all (worth ws) (member x) π ps)
-    (λ k. omega (arith, h k, when-one (rising (plain m) all (worth ws) (member x) π (k / 16) (k - 16 * (k / 16)))))
+    raised-small m all (worth ws) (member x) (left (plain m) (worth ws) (all - 1) ps) ps c h
+
+-- a bundle that is worth what a buyer has left, or more, rises for the members
+rising-worth : (m all : ℕ) (v : Table) (set : ℕ → Bool) (π : ℕ → ℕ) (j s : ℕ) → j < m → 1 ≤ s → s < all →
+    π (suc j) ≤ v (suc j) s →
+    rising (plain m) all v set π j s ≡ set (suc j)
+rising-worth m all v set π j s a b c d =
+    rw (lt-ltb j m a, le-leb 1 s b, lt-ltb s all c, le-leb (π (suc j)) (v (suc j) s) d) (and-true (set (suc j)))
+  where
+    and-true : (b : Bool) → (b && true) ≡ b
+    and-true true = refl
+    and-true false = refl
+
+-- the price of all lots rises for the members, so they have 1 less left
+module _
+    (m all : ℕ) (few : m ≤ 6) (two : 2 ≤ all) (short : all ≤ 16) (ws : List ℕ) (x : ℕ) (ps : List ℕ) (i : ℕ)
+    (lo : 1 ≤ i) (hi : i ≤ m) where
+  abbrev k : ℕ
+  k = 16 * (i - 1) + (all - 1)
+
+  abbrev has : ℕ → ℕ
+  has = left (plain m) (worth ws) (all - 1) ps
+
+  top-rises : rising (plain m) all (worth ws) (member x) has (i - 1) (all - 1) ≡ member x i
+  top-rises =
+      let own : suc (i - 1) ≡ i = omega arith in
+      rising-worth m all (worth ws) (member x) has (i - 1) (all - 1)
+      (omega arith) (omega arith) (omega arith) (omega arith)
+      ∙ ap (member x) own
+
+  top-price : getD (stepAt m all ws x ps) k 0 ≡ getD ps k 0 + when (member x i) 1
+  unfolding raisedBy
+  top-price =
+      let j : k / 16 ≡ i - 1 = omega arith in
+      let s : k - 16 * (k / 16) ≡ all - 1 = omega arith in
+      let here : rising (plain m) all (worth ws) (member x) has (k / 16) (k - 16 * (k / 16)) ≡ member x i =
+      ap (rising (plain m) all (worth ws) (member x) has (k / 16)) s
+      ∙ ap (λ j. rising (plain m) all (worth ws) (member x) has j (all - 1)) j ∙ top-rises in
+      tabulate-at 96 0 (risenAt (plain m) all (worth ws) (member x) has ps) k 0 (omega arith)
+      ∙ ap (risenAt (plain m) all (worth ws) (member x) has ps) (zero-add k)
+      ∙ ap (λ b. getD ps k 0 + when b 1) here
+
+  pub left-step :
+      left (plain 6) (worth ws) (all - 1) (stepAt m all ws x ps) i
+      ≡ lower (member x) (left (plain 6) (worth ws) (all - 1) ps) i
+  left-step = rw (ne-eqb (all - 1) 0 (λ z. omega arith)) (omega (arith, top-price))

@@ -1,6 +1,6 @@
 -- The rounds by coalition values are the sale's: what they did (`Done`) is what `Sold` says. Assumes what `Opens` says of the worths, and a table of the
 -- values.
-use mathlib.Core.Path.{_≡_, sym, ap, subst, _∙_}
+use mathlib.Core.Path.{_≡_, refl, sym, ap, subst, _∙_}
 use mathlib.Core.List.{List}
 use Prim.Native.Nat.{ℕ, _-_, _^_, _≤_}
 use native.Mathlib.Omega.{arith}
@@ -22,12 +22,16 @@ use Rattle.owners.proofs.Singles.{limit-small, sale-hall, sale-worths}
 use Rattle.rounds.specs.declared.State.{State}
 use Rattle.supply.specs.Supply.{shift, at}
 use Rattle.coalitions.specs.Values.{Valued}
-use Rattle.rounds.specs.Rounds.{Known, Opens, Sold, lowestAt, stepAt}
-use Rattle.rounds.proofs.Going.{Done}
+use Rattle.rounds.specs.Rounds.{Known, Tables, KeptAt, Opens, Sold, lowestAt, stepAt}
+use Rattle.rounds.proofs.Going.{Going, Done}
 
 pub start-none : AtMost 0 startPrices
 unfolding startPrices
 start-none k = omega (arith, zeros-at 96 k)
+
+pub start-long : length startPrices ≡ 96
+unfolding startPrices
+start-long = refl
 
 -- `all` is the number of bundles
 pub known : {m n f all : ℕ} {ws values o : List ℕ} → Opens m n ws f o → Valued m n ws values → all ≡ 2 ^ n → Known m all ws values
@@ -39,6 +43,13 @@ known {n = n} opens valued e =
       worths = opens .small;
       totals = valued .small;
     }
+
+-- rounds that go on, by some table of the values, with what is kept at their prices
+pub record Running (m n all : ℕ) (ws : List ℕ) (f : ℕ) (o l : List ℕ) (s : State) (k : Tables) : Type 0 where
+  pub values : List ℕ
+  pub valued : Valued m n ws values
+  pub going : Going (lowestAt m (all - 1) ws values) (stepAt m all ws) f startPrices o l (s .prices) (s .rounds)
+  pub kept : KeptAt m (all - 1) ws values (s .prices) k
 
 module _ (m n f : ℕ) (ws values o : List ℕ) (opens : Opens m n ws f o) (valued : Valued m n ws values) where
   abbrev al : List (List ℕ)

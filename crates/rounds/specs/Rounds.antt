@@ -1,19 +1,21 @@
--- A round and a sale as the code takes them. Offers `lowestAt` and `stepAt`, the choice and the raise by coalition values, and what the functions ask
--- (`Known`, `Opens`) and answer (`Round`, `Sold`); `Sold` is by the definition's rounds alone.
+-- A round and a sale as the code takes them. Offers `lowestAt` and `stepAt`, the choice and the raise by coalition
+-- values, what is kept from round to round (`KeptAt`), and what the functions ask (`Known`, `Ready`, `Opens`) and
+-- answer (`Round`, `TurnAt`, `Sold`); `Sold` is by the definition's rounds alone.
 use mathlib.Core.Path.{_≡_}
 use mathlib.Core.List.{List}
-use Prim.Native.Nat.{ℕ, _+_, _-_, _≤_}
+use Prim.Native.Nat.{ℕ, _+_, _-_, _^_, _≤_}
 use lib.Dec.{eqb}
 use lib.ListN.{length, set}
 use Rattle.theory.specs.Sums.{pick}
 use Rattle.theory.specs.Coalitions.{lowestBy}
+use Rattle.numbers.specs.Numbers.{Is}
 use Rattle.owners.specs.Owners.{member}
 use Rattle.owners.specs.Prices.{plain}
 use Rattle.owners.specs.Quick.{left, raisedBy, roster}
 use Rattle.owners.specs.Singles.{worth, AtMost, Topped, saleSets, salePrices, saleChoice}
 use Rattle.theory.specs.Lists.{over}
 use Rattle.rounds.specs.declared.State.{State}
-use Rattle.supply.specs.Supply.{shift, at}
+use Rattle.supply.specs.Supply.{shift, at, owed, Subsets, Keeps, SmallGains, SmallRevenues}
 
 -- 1 more than the number of the lowest undersupplied set at the prices ps, by the values; `top` is the bundle of all lots
 unfoldable pub lowestAt : ℕ → ℕ → List ℕ → List ℕ → List ℕ → ℕ
@@ -42,6 +44,52 @@ pub record Round (choose : List ℕ → ℕ) (step : ℕ → List ℕ → List �
 -- the round of a sale of bundles below `all`, in a state
 abbrev pub RoundAt : ℕ → ℕ → List ℕ → List ℕ → State → List ℕ → List ℕ → State → Type 0
 RoundAt m all ws values s o o′ r = Round (lowestAt m (all - 1) ws values) (stepAt m all ws) (s .prices) (s .rounds) o o′ r
+
+-- what a sale keeps from round to round: what each buyer has left, the gains of the sets, the revenues of the economies
+pub record Tables : Type 0 where
+  pub payoffs : List ℕ
+  pub gains : List ℕ
+  pub revenues : List ℕ
+
+abbrev pub tables : List ℕ → List ℕ → List ℕ → Tables
+tables πs gs rs = record { payoffs = πs; gains = gs; revenues = rs }
+
+-- they are as long as the code's
+pub record Long (k : Tables) : Type 0 where
+  pub payoffs : length (k .payoffs) ≡ 6
+  pub gains : length (k .gains) ≡ 64
+  pub revenues : length (k .revenues) ≡ 7
+
+-- what is kept at the prices ps: payoffs as they are read off the prices, and the others by the values
+pub record KeptAt (m top : ℕ) (ws values ps : List ℕ) (k : Tables) : Type 0 where
+  pub prices : length ps ≡ 96
+  pub long : Long k
+  pub payoffs : (i : ℕ) → 1 ≤ i → i ≤ m → owed (k .payoffs) i ≡ left (plain 6) (worth ws) top ps i
+  pub keeps : Keeps m values (k .payoffs) (k .gains) (k .revenues)
+
+-- r is 1 more than the number of the lowest undersupplied set, whatever the values that the tables are of
+abbrev pub Lowest : ℕ → Tables → ℕ → Type 0
+Lowest m k r = (values : List ℕ) → Keeps m values (k .payoffs) (k .gains) (k .revenues) →
+    r ≡ lowestBy (roster m) shift (at values) (owed (k .payoffs))
+
+-- what a round asks: the same in all rounds, and of what is kept
+pub record Ready (m all sets : ℕ) (subsets : List ℕ) : Type 0 where
+  pub few : m ≤ 6
+  pub two : 2 ≤ all
+  pub short : all ≤ 16
+  pub many : Is (2 ^ m) sets 64
+  pub words : Subsets subsets
+
+pub record Small (m : ℕ) (k : Tables) : Type 0 where
+  pub long : Long k
+  pub payoffs : AtMost 9999 (k .payoffs)
+  pub gains : SmallGains m (k .gains)
+  pub revenues : SmallRevenues m (k .revenues)
+
+-- and what it answers, whatever the values that the tables are of: the round in a state, and the tables at its prices
+abbrev pub TurnAt : ℕ → ℕ → List ℕ → State → Tables → List ℕ → List ℕ → State → Tables → Type 0
+TurnAt m all ws s k o o′ r k′ = (values : List ℕ) → KeptAt m (all - 1) ws values (s .prices) k →
+    RoundAt m all ws values s o o′ r × KeptAt m (all - 1) ws values (r .prices) k′
 
 -- what at most f rounds of a sale of n lots to m buyers ask of the worths and the record
 pub record Opens (m n : ℕ) (ws : List ℕ) (f : ℕ) (o : List ℕ) : Type 0 where

@@ -1,10 +1,12 @@
-// The rounds of a sale, by the values of the sets of buyers.
+// The rounds of a sale, by the values of the sets of buyers. What each buyer has left, the gains of the sets and the
+// revenues of the economies are kept from round to round.
 ghost use mathlib.Core.Path.{_≡_};
-ghost use Prim.Native.Nat.{_-_, _<_};
+ghost use Prim.Native.Nat.{_^_, _≤_, _<_};
 ghost use lib.ListN.{length, set};
 ghost use Rattle.numbers.specs.Numbers.{Is};
 ghost use Rattle.owners.specs.Singles.{AtMost, startPrices};
-ghost use Rattle.rounds.specs.Rounds.{Known, lowestAt, Opens, RoundAt, Sold};
+ghost use Rattle.rounds.specs.Rounds.{tables, Lowest, Ready, Small, TurnAt, Opens, Sold};
+ghost use Rattle.supply.specs.Supply.{Subsets};
 use numbers::power;
 
 // The state of a sale: its ninety-six prices, the number of rounds, and whether it is known to be settled.
@@ -16,17 +18,18 @@ pub struct State {
 
 // 1 more than the number of the lowest undersupplied set, 0 if there is none.
 fn choice(
-    worths: &[u16; 96],
-    values: &[u32; 64],
+    subsets: &[u64; 64],
+    payoffs: &[u32; 6],
+    gains: &[u32; 64],
+    revenues: &[u32; 7],
     buyers: usize,
-    all: usize,
-    prices: &[u16; 96],
+    sets: usize,
 ) -> usize
-    requires { ⌜ Known buyers all (now worths) (now values) ⌝ }
-    ensures { λ r. ⌜ Is (lowestAt buyers (all - 1) (now (worths .entry)) (now (values .entry)) (now (prices .entry))) r 64 ⌝ }
+    requires { ⌜ (buyers ≤ 6) × Subsets (now subsets) × Is (2 ^ buyers) sets 64 ⌝ }
+    ensures { λ r. ⌜ Lowest buyers (tables (now (payoffs .entry)) (now (gains .entry)) (now (revenues .entry))) r ⌝ }
 {
-    let payoffs = raising::payoffs(worths, prices, buyers, all - 1);
-    supply::lowest(values, &payoffs, buyers)
+    let words = supply::supplied(subsets, gains, revenues, buyers, sets);
+    supply::lowest(subsets, &words, payoffs, buyers, sets)
 }
 
 // Writes a set's number to the next byte of the record, the first of the rest (rule 4.12).
@@ -40,31 +43,42 @@ fn note(rest: &mut [u8], number: usize)
 // A round, with the rest of the record (rule 4.12): the set's number is its next byte.
 fn round(
     worths: &[u16; 96],
-    values: &[u32; 64],
+    subsets: &[u64; 64],
     buyers: usize,
     all: usize,
+    sets: usize,
     s: State,
+    payoffs: &mut [u32; 6],
+    gains: &mut [u32; 64],
+    revenues: &mut [u32; 7],
     rest: &mut [u8],
 ) -> State
-    requires { ⌜ Known buyers all (now worths) (now values) × (0 < length (now rest)) × AtMost 60000 (s .prices) × (s .rounds < 65000) ⌝ }
-    ensures { λ r. ⌜ RoundAt buyers all (now (worths .entry)) (now (values .entry)) s (now (rest .entry)) (now (rest .exit)) r ⌝ }
+    requires { ⌜ Ready buyers all sets (now subsets) × Small buyers (tables (now payoffs) (now gains) (now revenues))
+        × (0 < length (now rest)) × (length (s .prices) ≡ 96) × AtMost 60000 (s .prices) × (s .rounds < 65000) ⌝ }
+    ensures { λ r. ⌜ TurnAt buyers all (now (worths .entry)) s
+        (tables (now (payoffs .entry)) (now (gains .entry)) (now (revenues .entry)))
+        (now (rest .entry)) (now (rest .exit)) r
+        (tables (now (payoffs .exit)) (now (gains .exit)) (now (revenues .exit))) ⌝ }
 {
-    let old = s.prices;
-    let left = raising::payoffs(worths, &old, buyers, all - 1);
-    let x = supply::lowest(values, &left, buyers);
+    let words = supply::supplied(subsets, gains, revenues, buyers, sets);
+    let x = supply::lowest(subsets, &words, payoffs, buyers, sets);
+    let mut prices = s.prices;
     let n = s.rounds;
     if x == 0 {
         return State {
-            prices: old,
+            prices,
             rounds: n,
             settled: true,
         };
     }
     let set = x - 1;
     note(rest, set);
-    let new = raising::raise(worths, &left, old, buyers, all, set);
+    raising::raise(worths, payoffs, &mut prices, buyers, all, set);
+    raising::lower_payoffs(payoffs, buyers, set);
+    raising::raise_gains(gains, buyers, sets, set);
+    raising::raise_revenues(revenues, &words, buyers, set);
     State {
-        prices: new,
+        prices,
         rounds: n + 1,
         settled: false,
     }
@@ -93,18 +107,34 @@ pub fn run_rounds(
     ensures { λ r. ⌜ Sold buyers lots (now (worths .entry)) limit (now (log .entry)) (now (log .exit)) r ⌝ }
 {
     let values = coalitions::values(worths, buyers, lots);
+    let subsets = supply::subsets();
     let all = power(lots);
+    let sets = supply::sets_of(buyers);
     let mut s = start();
+    let zeros = s.prices;
+    let mut payoffs = raising::payoffs(worths, &zeros, buyers, all - 1);
+    let mut gains = supply::gains(&values, &payoffs, buyers, sets);
+    let mut revenues = supply::revenues(&gains, buyers, sets);
     while s.rounds < limit {
         let at = s.rounds as usize;
-        let next = round(worths, &values, buyers, all, s, &mut log[at..]);
+        let next = round(
+            worths,
+            &subsets,
+            buyers,
+            all,
+            sets,
+            s,
+            &mut payoffs,
+            &mut gains,
+            &mut revenues,
+            &mut log[at..],
+        );
         if next.settled {
             return next;
         }
         s = next;
     }
-    let last = s.prices;
-    let x = choice(worths, &values, buyers, all, &last);
+    let x = choice(&subsets, &payoffs, &gains, &revenues, buyers, sets);
     s.settled = x == 0;
     s
 }

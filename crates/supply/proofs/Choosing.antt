@@ -1,30 +1,31 @@
--- The lowest undersupplied set by coalition values, step by step: payoffs of a set (`pay-in`), the greatest gain (`best-rises`), the sets that are supplied
--- in an economy (`reach-more`) and in all (`every-more`), the keen buyers (`keen-in`). `words-lowest` puts the steps together. Assumes nothing.
+-- The lowest undersupplied set by coalition values, step by step: payoffs of a set (`pay-in`), the greatest gain
+-- (`best-rises`), the sets that are supplied in each economy by one set (`joins-more`) and by all (`scan-more`) and in
+-- all economies (`every-more`), the keen buyers (`keen-in`). `words-lowest` puts the steps together. Assumes nothing.
 use mathlib.Core.Path.{_≡_, refl, sym, ap, _∙_}
-use mathlib.Core.Bool.{Bool, true, false, not, _&&_, _||_}
+use mathlib.Core.Bool.{Bool, true, false, not, _&&_, _||_, and-false, or-false}
 use mathlib.Core.List.{List}
-use Prim.Native.Nat.{ℕ, zero, suc, max, _+_, _-_, _*_, _^_, _≤_, _<_}
+use Prim.Native.Nat.{ℕ, suc, max, _+_, _-_, _*_, _^_, _≤_, _<_}
 use native.Mathlib.Nat.{sub-zero}
-use native.Mathlib.Numerals.{add-one}
 use native.Mathlib.Omega.{arith}
-use lib.Dec.{eqb, leb}
+use native.Mathlib.Decide.{ℕ-discrete}
+use lib.Dec.{leb}
 use lib.Bits.{bitAnd, bitOr}
-use lib.ListN.{getD}
+use lib.ListN.{getD, set}
 use lib.Pow.{pow-mono}
 use borrow.Author.Tests.{eq-eqb, ne-eqb, le-leb, lt-leb}
 use Rattle.theory.specs.Sums.{when, sum}
-use Rattle.theory.specs.Lists.{most, tabulate, upTo}
+use Rattle.theory.specs.Lists.{most, upTo}
 use Rattle.theory.specs.Tests.{every, some, least, _⊃_}
 use Rattle.theory.specs.Markets.{only}
-use Rattle.theory.specs.Coalitions.{inside, covers, gain, revenue, suppliedBy, lowestBy}
-use Rattle.theory.proofs.Tests.{by-test, some-same, least-same, every-same}
-use Rattle.theory.proofs.Lists.{most-same, upTo-from}
-use Rattle.theory.proofs.Loops.{sum-down}
+use Rattle.theory.specs.Coalitions.{inside, covers}
+use Rattle.theory.proofs.Tests.{by-test, least-same, every-same}
+use Rattle.theory.proofs.Loops.{sum-down, some-more, some-done, Revised, revised-set, revised-skip}
 use Rattle.numbers.specs.Numbers.{bit}
 use Rattle.owners.specs.Owners.{member, number}
 use Rattle.owners.specs.Quick.{presentIn, roster}
 use Rattle.owners.proofs.Bits.{number-bit, number-down, number-small}
-use Rattle.supply.specs.Supply.{shift, at, owed, Gains, greatest, reaches, reached, among, Word, Keen}
+use Rattle.supply.specs.Supply.{at, owed, Under, reaches, reached, among, Word, Joined, Joins, Supplied}
+use Rattle.supply.specs.Supply.{Keen, lowestIn}
 use Rattle.supply.proofs.Words.{bit-or, bit-and, bit-ones, bit-zero, among-fewer}
 
 -- what the members of a set have left, with buyer i
@@ -61,33 +62,97 @@ module _ (m : ℕ) (gs : List ℕ) (e k best best′ : ℕ) where
 pub reach-start : (m sets n : ℕ) (t : ℕ → Bool) → sets ≡ 2 ^ m → (bit n 0 || some t (upTo (sets - 0) 0)) ≡ some t (upTo (2 ^ m) 0)
 reach-start m sets n t e = rw (bit-zero n, sub-zero, e)
 
-no-and : (x y : Bool) → (x && (y && false)) ≡ false
-no-and true true = refl
-no-and true false = refl
-no-and false y = refl
-
-or-no : (x : Bool) → x ≡ (x || false)
-or-no true = refl
-or-no false = refl
-
 and-yes : (x : Bool) → (x && true) ≡ x
 and-yes true = refl
 and-yes false = refl
 
-module _ (m : ℕ) (gs : List ℕ) (top e n k word word′ : ℕ) where
-  pub reach-lower : (at gs k ≡ top → ⊥) → word′ ≡ word → bit n word′ ≡ (bit n word || reaches m gs top e n k)
+module _ (m g top e n k word word′ : ℕ) where
+  pub reach-lower : (g ≡ top → ⊥) → word′ ≡ word → bit n word′ ≡ (bit n word || reaches m g top e n k)
   reach-lower h ew =
-      rw (ew, ne-eqb (at gs k) top h, no-and (inside (roster m) (presentIn e) k) (covers (roster m) (presentIn e) n k)) (or-no (bit n word))
+      rw (
+        ew,
+        ne-eqb g top h,
+        and-false (covers (roster m) (presentIn e) n k),
+        and-false (inside (roster m) (presentIn e) k),
+        or-false (bit n word),
+      )
 
   module _ (w : Bool) (ew : w ≡ inside (roster m) (presentIn e) k) where
-    pub reach-outside : w ≡ false → word′ ≡ word → bit n word′ ≡ (bit n word || reaches m gs top e n k)
-    reach-outside p e′ = let q : inside (roster m) (presentIn e) k ≡ false = sym ew ∙ p in rw (e′, q) (or-no (bit n word))
+    pub reach-outside : w ≡ false → word′ ≡ word → bit n word′ ≡ (bit n word || reaches m g top e n k)
+    reach-outside p e′ =
+        let q : inside (roster m) (presentIn e) k ≡ false = sym ew ∙ p in rw (e′, q, or-false (bit n word))
 
-    pub reach-more : at gs k ≡ top → w ≡ true → (s : ℕ) → bit n s ≡ covers (roster m) (presentIn e) n k →
-        word′ ≡ bitOr word s → bit n word′ ≡ (bit n word || reaches m gs top e n k)
+    pub reach-more : g ≡ top → w ≡ true → (s : ℕ) → bit n s ≡ covers (roster m) (presentIn e) n k →
+        word′ ≡ bitOr word s → bit n word′ ≡ (bit n word || reaches m g top e n k)
     reach-more et p s es e′ =
         let q : inside (roster m) (presentIn e) k ≡ true = sym ew ∙ p in
-        rw (e′, bit-or n word s, es, q, eq-eqb (at gs k) top et, and-yes (covers (roster m) (presentIn e) n k))
+        rw (e′, bit-or n word s, es, q, eq-eqb g top et, and-yes (covers (roster m) (presentIn e) n k))
+
+-- the same for the words of all economies, gone over one by one
+module _ (m : ℕ) (rs : List ℕ) (g k : ℕ) (old : List ℕ) where
+  abbrev pub Reached : ℕ → ℕ → Type 0
+  Reached j w = Joined m (at rs j) g j k (at old j) w
+
+  module _ (e : ℕ) (next next′ : List ℕ) (so-far : Revised Reached 7 old e next) where
+    pub joins-lower : (g ≡ at rs e → ⊥) → next′ ≡ next → Revised Reached 7 old (e + 1) next′
+    joins-lower h en =
+        rw en (revised-skip Reached 7 old e next so-far
+        (λ n l. reach-lower m g (at rs e) e n k (at old e) (at old e) h refl))
+
+    module _ (w : Bool) (ew : w ≡ inside (roster m) (presentIn e) k) where
+      pub joins-outside : w ≡ false → next′ ≡ next → Revised Reached 7 old (e + 1) next′
+      joins-outside p en =
+          rw en
+          (revised-skip Reached 7 old e next so-far
+          (λ n l. reach-outside m g (at rs e) e n k (at old e) (at old e) w ew p refl))
+
+      pub joins-more : e < 7 → g ≡ at rs e → w ≡ true → (s : ℕ) → Word m (λ n. covers (roster m) (presentIn e) n k) s →
+          next′ ≡ set next e (bitOr (at next e) s) → Revised Reached 7 old (e + 1) next′
+      joins-more h eg p s es en =
+          rw en
+          (revised-set Reached 7 old e next so-far h (bitOr (at next e) s)
+          (λ n l. reach-more m g (at rs e) e n k (at old e) (bitOr (at next e) s) w ew eg p s (es n l)
+          (ap (λ x. bitOr x s) (so-far .rest e (omega arith)))))
+
+-- the scan of all sets: what each word has, and the sets from k on add
+module _ (m : ℕ) (gs rs : List ℕ) (sets : ℕ) where
+  pub Scanned : ℕ → List ℕ → Type 0
+  Scanned k words = (e : ℕ) → e ≤ m → (n : ℕ) → n < 2 ^ m →
+      (bit n (at words e) || some (λ k. reaches m (at gs k) (at rs e) e n k) (upTo (sets - k) k))
+      ≡ reached m gs (at rs e) e n
+
+  pub scan-start : (words : List ℕ) → ((e : ℕ) → at words e ≡ 0) → sets ≡ 2 ^ m → Scanned 0 words
+  unfolding Scanned
+  scan-start words none es e h n l = rw (none e) (reach-start m sets n (λ k. reaches m (at gs k) (at rs e) e n k) es)
+
+  module _ (k : ℕ) (words words′ : List ℕ) (so-far : Scanned k words) where
+    pub scan-more : k < sets → (more : List ℕ) → Joins m rs (at gs k) k words more → words′ ≡ more →
+        Scanned (k + 1) words′
+    unfolding Scanned
+    scan-more h more joins ew e l n q =
+        some-more sets k h (λ k. reaches m (at gs k) (at rs e) e n k) (bit n (at words e)) (bit n (at words′ e)) _
+        (so-far e l n q)
+        (ap (λ w. bit n (at w e)) ew ∙ joins e l n q)
+
+    -- a set that gains less than each revenue adds nothing
+    pub scan-pass : k < sets → (least : ℕ) → Under m rs least → at gs k < least → words′ ≡ words →
+        Scanned (k + 1) words′
+    scan-pass h least under less ew =
+        scan-more h words
+        (λ e l n q.
+        reach-lower m (at gs k) (at rs e) e n k (at words e) (at words e) (λ z. omega (arith, under e l)) refl) ew
+
+    pub scan-end : sets ≤ k → Supplied m gs rs words
+    unfolding Scanned
+    scan-end h e l n q =
+        some-done sets k h (λ k. reaches m (at gs k) (at rs e) e n k) (bit n (at words e)) _ (so-far e l n q)
+
+-- the least of the first revenues
+pub under-more : (rs : List ℕ) (e least least′ : ℕ) → ((j : ℕ) → j < e → least ≤ at rs j) → least′ ≤ least →
+    least′ ≤ at rs e →
+    (j : ℕ) → j < e + 1 → least′ ≤ at rs j
+under-more rs e least least′ h a b j l =
+    elim (ℕ-discrete j e) [ yes q ↦ omega (arith, ap (at rs) q) | no q ↦ omega (arith, h j (omega arith)) ]
 
 -- and in every economy
 pub every-start : (n m : ℕ) (t : ℕ → Bool) → n < 64 → (bit n 18446744073709551615 && every (m + 1 - 0) 0 t) ≡ every (m + 1) 0 t
@@ -129,43 +194,17 @@ pub not-second : (a b : Bool) → b ≡ true → (a && not b) ≡ false
 not-second true b p = rw p
 not-second false b p = refl
 
--- where not all pass, some do not
-not-every : {A : Type 0} (k s : ℕ) (t : ℕ → Bool) (f : ℕ → A) (u : A → Bool) → ((i : ℕ) → t i ≡ u (f i)) →
-    not (every k s t) ≡ some (λ a. not (u a)) (tabulate k s f)
-not-every zero s t f u h = refl
-not-every (suc k) s t f u h = rw (h s, ← not-every k (suc s) t f u h) (not-and (u (f s)) (every k (suc s) t))
-  where
-    not-and : (x y : Bool) → not (x && y) ≡ (not x || not y)
-    not-and true y = refl
-    not-and false y = refl
-
--- the words say what the values say
-module _ (m : ℕ) (values ps gs : List ℕ) (gains : Gains m values ps gs) where
-  greatest-is : (e : ℕ) → greatest m gs e ≡ revenue (roster m) shift (at values) (owed ps) (presentIn e)
-  greatest-is e =
-      most-same (λ k. when (inside (roster m) (presentIn e) k) (at gs k))
-      (λ k. when (inside (roster m) (presentIn e) k) (gain (roster m) shift (at values) (owed ps) k))
-      (upTo (2 ^ m) 0) (λ k r. rw (gains k (omega (arith, upTo-from (2 ^ m) 0 r))))
-
-  reached-is : (n e : ℕ) → reached m gs (greatest m gs e) e n ≡ suppliedBy (roster m) shift (at values) (owed ps) n (presentIn e)
-  reached-is n e =
-      some-same (reaches m gs (greatest m gs e) e n)
-      (λ k. inside (roster m) (presentIn e) k
-      && (covers (roster m) (presentIn e) n k
-      && eqb (gain (roster m) shift (at values) (owed ps) k) (revenue (roster m) shift (at values) (owed ps) (presentIn e))))
-      (upTo (2 ^ m) 0) (λ k r. rw (gains k (omega (arith, upTo-from (2 ^ m) 0 r)), greatest-is e))
-
-  pub words-lowest : (sets k w all r : ℕ) → m ≤ 6 → sets ≡ 2 ^ m → Keen m ps k → Word 6 (among 6 k) w →
-      Word m (λ n. every (m + 1) 0 (λ e. reached m gs (greatest m gs e) e n)) all →
-      r ≡ least sets 0 (λ n. bit n w && not (bit n all)) → r ≡ lowestBy (roster m) shift (at values) (owed ps)
-  words-lowest sets k w all r few es keen kw aw er =
-      er ∙ ap (λ s. least s 0 (λ n. bit n w && not (bit n all))) es ∙
-      least-same (2 ^ m) 0 _ _ (λ n h.
-      let l : n < 2 ^ m = omega arith in
-      let a : bit n w ≡ every m 1 (λ i. member n i ⊃ leb 1 (owed ps i)) =
-      kw n (omega (arith, pow-mono {i = m} {j = 6} few)) ∙ among-fewer m k n few l ∙
-      every-same m 1 (λ i. member n i ⊃ member k i) (λ i. member n i ⊃ leb 1 (owed ps i)) (λ i q. rw (keen .is i (omega arith) (omega arith))) in
-      let b : not (bit n all) ≡ some (λ p. not (suppliedBy (roster m) shift (at values) (owed ps) n p)) (tabulate (suc m) 0 presentIn) =
-      ap not (aw n l ∙ ap (λ k. every k 0 (λ e. reached m gs (greatest m gs e) e n)) (add-one m)) ∙
-      not-every (suc m) 0 (λ e. reached m gs (greatest m gs e) e n) presentIn (suppliedBy (roster m) shift (at values) (owed ps) n) (reached-is n) in
-      rw (a, b))
+-- the lowest set by words
+pub words-lowest : (m : ℕ) (words ps : List ℕ) (sets k w all r : ℕ) → m ≤ 6 → sets ≡ 2 ^ m → Keen m ps k →
+    Word 6 (among 6 k) w →
+    Word m (λ n. every (m + 1) 0 (λ e. bit n (at words e))) all →
+    r ≡ least sets 0 (λ n. bit n w && not (bit n all)) → r ≡ lowestIn m words ps
+words-lowest m words ps sets k w all r few es keen kw aw er =
+    er ∙ ap (λ s. least s 0 (λ n. bit n w && not (bit n all))) es ∙
+    least-same (2 ^ m) 0 _ _ (λ n h.
+    let l : n < 2 ^ m = omega arith in
+    let a : bit n w ≡ every m 1 (λ i. member n i ⊃ leb 1 (owed ps i)) =
+    kw n (omega (arith, pow-mono {i = m} {j = 6} few)) ∙ among-fewer m k n few l ∙
+    every-same m 1 (λ i. member n i ⊃ member k i) (λ i. member n i ⊃ leb 1 (owed ps i))
+    (λ i q. rw (keen .is i (omega arith) (omega arith))) in
+    rw (a, aw n l))

@@ -55,17 +55,18 @@ pub bit-zero : (n : ℕ) → bit n 0 ≡ false
 bit-zero n = let z : 0 / 2 ^ n ≡ 0 = div-eq-of-lt (omega (arith, pow-pos n)) in rw z
 
 -- laws of numbers below 64, by computing
-abbrev alike : Bool → Bool → Bool
+abbrev pub alike : Bool → Bool → Bool
 alike true y = y
 alike false y = not y
 
-alike-same : (x y : Bool) → alike x y ≡ true → x ≡ y
+pub alike-same : (x y : Bool) → alike x y ≡ true → x ≡ y
 alike-same true y h = sym h
 alike-same false true h = h
 alike-same false false h = refl
 
 -- what passes for every k below a and d below b
-tried : (a b : ℕ) (t : ℕ → ℕ → Bool) → every a 0 (λ k. every b 0 (t k)) ≡ true → (k d : ℕ) → k < a → d < b → t k d ≡ true
+pub tried : (a b : ℕ) (t : ℕ → ℕ → Bool) → every a 0 (λ k. every b 0 (t k)) ≡ true → (k d : ℕ) → k < a → d < b →
+    t k d ≡ true
 tried a b t all k d h l =
     every-means b 0 (λ d r. itself (t k d)) .0 (every-means a 0 (λ k r. itself (every b 0 (t k))) .0 all k (omega arith)) d (omega arith)
 

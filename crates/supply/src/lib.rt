@@ -1,14 +1,17 @@
-// The lowest undersupplied set, by the values of sets and what their buyers have left. A set of sets is a word of 64 bits: bit n is for the set of number n.
+// The lowest undersupplied set, by the gains of sets, the revenues of economies and what buyers have left, which a sale
+// keeps from round to round. A set of sets is a word of 64 bits: bit n is for the set of number n.
 ghost use mathlib.Core.Path.{_≡_};
 ghost use mathlib.Core.Bool.{true, not, _&&_};
 ghost use Prim.Native.Nat.{_+_, _^_, _≤_, _<_};
+ghost use lib.ListN.{length};
 ghost use Rattle.theory.specs.Tests.{every, least};
-ghost use Rattle.theory.specs.Coalitions.{payoffOf, inside, covers, lowestBy};
+ghost use Rattle.theory.specs.Coalitions.{payoffOf, inside, covers};
 ghost use Rattle.numbers.specs.Numbers.{Is, bit};
 ghost use Rattle.owners.specs.Owners.{member};
 ghost use Rattle.owners.specs.Quick.{presentIn, roster};
 ghost use Rattle.owners.specs.Singles.{AtMost};
-ghost use Rattle.supply.specs.Supply.{shift, at, owed, Gains, greatest, reached, among, Word, Keen};
+ghost use Rattle.supply.specs.Supply.{at, owed, Gains, greatest, Revenues, Under, Subsets, Joins, Supplied};
+ghost use Rattle.supply.specs.Supply.{Word, Keen, lowestIn};
 use numbers::has;
 use numbers::power;
 
@@ -16,7 +19,7 @@ use numbers::power;
 const SHIFT: u32 = 60000;
 
 // The sets of so many buyers, the empty one among them.
-fn sets_of(buyers: usize) -> usize
+pub fn sets_of(buyers: usize) -> usize
     requires { ⌜ buyers ≤ 6 ⌝ }
     ensures { λ r. ⌜ Is (2 ^ buyers) r 64 ⌝ }
 {
@@ -48,7 +51,7 @@ fn payoff_of(payoffs: &[u32; 6], buyers: usize, k: usize) -> u32
 }
 
 // What each set's value is above what its members have left.
-fn gains(values: &[u32; 64], payoffs: &[u32; 6], buyers: usize, sets: usize) -> [u32; 64]
+pub fn gains(values: &[u32; 64], payoffs: &[u32; 6], buyers: usize, sets: usize) -> [u32; 64]
     requires { ⌜ (buyers ≤ 6) × Is (2 ^ buyers) sets 64 × AtMost 9999 (now payoffs) × AtMost 59994 (now values) ⌝ }
     ensures { λ r. ⌜ Gains buyers (now (values .entry)) (now (payoffs .entry)) r ⌝ }
 {
@@ -91,7 +94,22 @@ fn revenue(gains: &[u32; 64], buyers: usize, sets: usize, economy: usize) -> u32
     best
 }
 
-// For each set, the word of the sets of some of its members.
+// The revenue of each economy.
+pub fn revenues(gains: &[u32; 64], buyers: usize, sets: usize) -> [u32; 7]
+    requires { ⌜ (buyers ≤ 6) × Is (2 ^ buyers) sets 64 ⌝ }
+    ensures { λ r. ⌜ Revenues buyers (now (gains .entry)) r ⌝ }
+{
+    let mut next = [0u32; 7];
+    let mut e: usize = 0;
+    while e <= buyers {
+        next[e] = revenue(gains, buyers, sets, e);
+        e += 1;
+    }
+    next
+}
+
+// For each set, the word of the sets of some of its members. A constant table is laid out anew at each use, so a sale
+// makes it once and lends it.
 const SUBSETS: [u64; 64] = [
     1,
     3,
@@ -159,53 +177,101 @@ const SUBSETS: [u64; 64] = [
     18446744073709551615,
 ];
 
-// The sets of members of k.
-fn subsets(k: usize) -> u64
-    requires { ⌜ k < 64 ⌝ }
-    ensures { λ r. ⌜ Word 6 (among 6 k) r ⌝ }
+// That table.
+pub fn subsets() -> [u64; 64]
+    ensures { λ r. ⌜ Subsets r ⌝ }
 {
-    SUBSETS[k]
+    SUBSETS
 }
 
 // The sets whose members in an economy are all in k, a set of that economy.
-fn covered(buyers: usize, economy: usize, k: usize) -> u64
-    requires { ⌜ (buyers ≤ 6) × (economy ≤ buyers) × (k < 2 ^ buyers) × (inside (roster buyers) (presentIn economy) k ≡ true) ⌝ }
+fn covered(subsets: &[u64; 64], buyers: usize, economy: usize, k: usize) -> u64
+    requires { ⌜ Subsets (now subsets) × (buyers ≤ 6) × (economy ≤ buyers) × (k < 2 ^ buyers)
+        × (inside (roster buyers) (presentIn economy) k ≡ true) ⌝ }
     ensures { λ r. ⌜ Word buyers (λ n. covers (roster buyers) (presentIn economy) n k) r ⌝ }
 {
     if economy == 0 {
-        return subsets(k);
+        return subsets[k];
     }
-    subsets(k + power(economy - 1))
+    let more = k + power(economy - 1);
+    subsets[more]
 }
 
-// The sets that are supplied in an economy: those whose members in it are all in a set that gains the revenue.
-fn supplied(gains: &[u32; 64], buyers: usize, sets: usize, economy: usize) -> u64
-    requires { ⌜ (buyers ≤ 6) × Is (2 ^ buyers) sets 64 × (economy ≤ buyers) ⌝ }
-    ensures { λ r. ⌜ Word buyers (λ n. reached buyers (now (gains .entry)) (greatest buyers (now (gains .entry)) economy) economy n) r ⌝ }
+// The least revenue. That none is below it is all that its contract says: sets that gain less are passed over.
+fn least_of(revenues: &[u32; 7], buyers: usize) -> u32
+    requires { ⌜ buyers ≤ 6 ⌝ }
+    ensures { λ r. ⌜ Under buyers (now (revenues .entry)) r ⌝ }
 {
-    let top = revenue(gains, buyers, sets, economy);
-    let mut word: u64 = 0;
+    let mut least = revenues[0];
+    let mut e: usize = 1;
+    while e <= buyers {
+        let r = revenues[e];
+        if r < least {
+            least = r;
+        }
+        e += 1;
+    }
+    least
+}
+
+// Adds the sets that the set k covers to the words of the economies whose revenue is its gain.
+fn reach(
+    subsets: &[u64; 64],
+    words: &mut [u64; 7],
+    revenues: &[u32; 7],
+    buyers: usize,
+    k: usize,
+    gain: u32,
+)
+    requires { ⌜ Subsets (now subsets) × (length (now words) ≡ 7) × (buyers ≤ 6) × (k < 2 ^ buyers) ⌝ }
+    ensures { λ _. ⌜ (length (now (words .exit)) ≡ 7)
+        × Joins buyers (now (revenues .entry)) gain k (now (words .entry)) (now (words .exit)) ⌝ }
+{
+    let mut e: usize = 0;
+    while e <= buyers {
+        if gain == revenues[e] {
+            if is_inside(buyers, e, k) {
+                words[e] = words[e] | covered(subsets, buyers, e, k);
+            }
+        }
+        e += 1;
+    }
+}
+
+// The sets that are supplied in each economy: those whose members in it are all in a set that gains the revenue. A set
+// that gains less than the least revenue gains none of them.
+pub fn supplied(
+    subsets: &[u64; 64],
+    gains: &[u32; 64],
+    revenues: &[u32; 7],
+    buyers: usize,
+    sets: usize,
+) -> [u64; 7]
+    requires { ⌜ Subsets (now subsets) × (buyers ≤ 6) × Is (2 ^ buyers) sets 64 ⌝ }
+    ensures { λ r. ⌜ Supplied buyers (now (gains .entry)) (now (revenues .entry)) r ⌝ }
+{
+    let least = least_of(revenues, buyers);
+    let mut words = [0u64; 7];
     let mut k: usize = 0;
     while k < sets {
-        if gains[k] == top {
-            if is_inside(buyers, economy, k) {
-                word = word | covered(buyers, economy, k);
-            }
+        let g = gains[k];
+        if least <= g {
+            reach(subsets, &mut words, revenues, buyers, k, g);
         }
         k += 1;
     }
-    word
+    words
 }
 
 // The sets that are supplied in every economy.
-fn supplied_everywhere(gains: &[u32; 64], buyers: usize, sets: usize) -> u64
-    requires { ⌜ (buyers ≤ 6) × Is (2 ^ buyers) sets 64 ⌝ }
-    ensures { λ r. ⌜ Word buyers (λ n. every (buyers + 1) 0 (λ e. reached buyers (now (gains .entry)) (greatest buyers (now (gains .entry)) e) e n)) r ⌝ }
+fn everywhere(words: &[u64; 7], buyers: usize) -> u64
+    requires { ⌜ buyers ≤ 6 ⌝ }
+    ensures { λ r. ⌜ Word buyers (λ n. every (buyers + 1) 0 (λ e. bit n (at (now (words .entry)) e))) r ⌝ }
 {
     let mut word: u64 = 18446744073709551615;
     let mut e: usize = 0;
     while e <= buyers {
-        word = word & supplied(gains, buyers, sets, e);
+        word = word & words[e];
         e += 1;
     }
     word
@@ -245,13 +311,17 @@ fn first_missing(word: u64, other: u64, sets: usize) -> usize
     0
 }
 
-// 1 more than the number of the lowest undersupplied set, 0 if there is none.
-pub fn lowest(values: &[u32; 64], payoffs: &[u32; 6], buyers: usize) -> usize
-    requires { ⌜ (buyers ≤ 6) × AtMost 9999 (now payoffs) × AtMost 59994 (now values) ⌝ }
-    ensures { λ r. ⌜ Is (lowestBy (roster buyers) shift (at (now (values .entry))) (owed (now (payoffs .entry)))) r 64 ⌝ }
+// 1 more than the number of the lowest set of keen buyers that some economy does not supply, 0 if there is none.
+pub fn lowest(
+    subsets: &[u64; 64],
+    words: &[u64; 7],
+    payoffs: &[u32; 6],
+    buyers: usize,
+    sets: usize,
+) -> usize
+    requires { ⌜ Subsets (now subsets) × (buyers ≤ 6) × Is (2 ^ buyers) sets 64 ⌝ }
+    ensures { λ r. ⌜ Is (lowestIn buyers (now (words .entry)) (now (payoffs .entry))) r 64 ⌝ }
 {
-    let sets = sets_of(buyers);
-    let gains = gains(values, payoffs, buyers, sets);
-    let supplied = supplied_everywhere(&gains, buyers, sets);
-    first_missing(subsets(keen_set(payoffs, buyers)), supplied, sets)
+    let keen = keen_set(payoffs, buyers);
+    first_missing(subsets[keen], everywhere(words, buyers), sets)
 }

@@ -1,6 +1,6 @@
 -- The mathematics of an ascending auction. Sums, Tests, Lists, Loops and Rounds have the laws of the tools;
--- Duality, Payments, NoGain, Auction, Alike and Settled hold at any prices, Ascent, Sale and Coalitions at a sale's
--- own; Universal and Outcome say what a sale comes to, and Example reckons one.
+-- Duality, Payments, NoGain, Auction, Alike and Settled hold at any prices, Ascent, Sale, Coalitions and Kept at a
+-- sale's own; Universal and Outcome say what a sale comes to, and Example reckons one.
 pub mod Sums
 pub mod Tests
 pub mod Lists
@@ -18,4 +18,5 @@ pub mod Sale
 pub mod Universal
 pub mod Outcome
 pub mod Coalitions
+pub mod Kept
 pub mod Example

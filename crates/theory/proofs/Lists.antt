@@ -157,10 +157,13 @@ tabulate-each P d zero s f past h j = past
 tabulate-each P d (suc k) s f past h zero = h s (omega arith)
 tabulate-each P d (suc k) s f past h (suc j) = tabulate-each P d k (suc s) f past (λ i r. h i (omega arith)) j
 
+pub tabulate-in : {A : Type 0} (k s : ℕ) (f : ℕ → A) (i : ℕ) → Among k s i → f i ∈ tabulate k s f
+tabulate-in zero s f i r = absurd (omega arith)
+tabulate-in (suc k) s f i r =
+    elim (ℕ-discrete i s) [ yes e ↦ here (ap f e) | no n ↦ there (tabulate-in k (suc s) f i (omega arith)) ]
+
 pub upTo-in : (k s : ℕ) {i : ℕ} → Among k s i → i ∈ upTo k s
-upTo-in zero s r = absurd (omega arith)
-upTo-in (suc k) s {i} r =
-    elim (ℕ-discrete i s) [ yes e ↦ here e | no n ↦ there (upTo-in k (suc s) (omega arith)) ]
+upTo-in k s {i} r = tabulate-in k s (λ i. i) i r
 
 pub upTo-from : (k s : ℕ) {i : ℕ} → i ∈ upTo k s → Among k s i
 upTo-from zero s m = absurd (List·Memᴰ·not-nil m)

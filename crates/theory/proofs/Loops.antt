@@ -1,8 +1,8 @@
 -- Loops over a range: what a definition over it still has to do from k on. Offers one law for each way through a loop
 -- that looks for the first that passes (`least`), that tests all (`every`), that takes in one number after another
--- (`most`, `sum`, `some`, `every`, and `sum` counting down), and that fills a list place by place (`Filled`, `tabulate`).
--- Assumes nothing.
-use mathlib.Core.Path.{_≡_, refl, sym, ap, _∙_}
+-- (`most`, `sum`, `some`, `every`, and `sum` counting down), that fills a list place by place (`Filled`, `tabulate`),
+-- and that goes over one place by place (`Revised`). Assumes nothing.
+use mathlib.Core.Path.{_≡_, refl, sym, ap, subst, _∙_}
 use mathlib.Core.Logic.{⊎-elim}
 use mathlib.Core.Bool.{Bool, true, false, _&&_, _||_}
 use mathlib.Core.List.{List}
@@ -127,6 +127,39 @@ filled-all f n k l h g =
 pub filled-tabulate : (f : ℕ → ℕ) (n : ℕ) → Filled f n n (tabulate n 0 f)
 filled-tabulate f n =
     record { long = tabulate-length n 0 f; done = λ j h. tabulate-at n 0 f j 0 h ∙ ap f (zero-add j) }
+
+-- a list of n places that is gone over: the first k hold what P says, the others what they held
+pub record Revised (P : ℕ → ℕ → Type 0) (n : ℕ) (old : List ℕ) (k : ℕ) (l : List ℕ) : Type 0 where
+  pub long : length l ≡ n
+  pub done : (j : ℕ) → j < k → P j (getD l j 0)
+  pub rest : (j : ℕ) → k ≤ j → getD l j 0 ≡ getD old j 0
+
+pub revised-none : (P : ℕ → ℕ → Type 0) (n : ℕ) (old : List ℕ) → length old ≡ n → Revised P n old 0 old
+revised-none P n old e = record { long = e; done = λ j h. absurd (omega arith); rest = λ j _. refl }
+
+module _ (P : ℕ → ℕ → Type 0) (n : ℕ) (old : List ℕ) (k : ℕ) (l : List ℕ) (g : Revised P n old k l) where
+  pub revised-set : k < n → (v : ℕ) → P k v → Revised P n old (k + 1) (set l k v)
+  revised-set h v p =
+      record {
+        long = length-set l k v ∙ g .long;
+        done = λ j q. ⊎-elim
+            (λ e. subst (λ i. P i (getD (set l k v) i 0)) (sym e)
+            (subst (P k) (sym (getD-set-same l k v 0 (omega (arith, g .long)))) p))
+            (λ q. subst (P j) (sym (getD-set-other l k j v 0 (λ z. omega arith))) (g .done j q))
+            (eq-or-lt-of-le {n = j} {m = k} (omega arith));
+        rest = λ j q. getD-set-other l k j v 0 (λ z. omega arith) ∙ g .rest j (omega arith);
+      }
+
+  pub revised-skip : P k (getD old k 0) → Revised P n old (k + 1) l
+  revised-skip p =
+      record {
+        long = g .long;
+        done = λ j q. ⊎-elim
+            (λ e. subst (λ i. P i (getD l i 0)) (sym e) (subst (P k) (sym (g .rest k (omega arith))) p))
+            (g .done j)
+            (eq-or-lt-of-le {n = j} {m = k} (omega arith));
+        rest = λ j q. g .rest j (omega arith);
+      }
 
 pub filled-copy : (n k : ℕ) (l t : List ℕ) → n ≤ k → length l ≡ n → Filled (λ j. getD l j 0) n k t → t ≡ l
 filled-copy n k l t h e g = ext-getD 0 t l (g .long ∙ sym e) (λ j q. g .done j (omega (arith, g .long)))

@@ -1,12 +1,22 @@
--- Laws of sums over a range: order (`sum-mono`, `sum-tight`), addition (`sum-add`), the last term (`sum-last`), a later
--- range (`sum-shift`), and sums of functions that differ at one place (`sum-but`, `sum-swap`).
+-- Laws of what counts (`when-up`), and of sums over a range: order (`sum-mono`, `sum-tight`), addition (`sum-add`), the
+-- last term (`sum-last`), a later range (`sum-shift`), and sums of functions that differ at one place (`sum-but`,
+-- `sum-swap`).
 use mathlib.Core.Path.{_≡_, refl, ap}
 use mathlib.Core.Logic.{_≢_}
+use mathlib.Core.Bool.{Bool, true, false}
 use Prim.Native.Nat.{ℕ, zero, suc, _+_, _*_, _≤_}
 use native.Mathlib.Nat.{add-zero}
 use native.Mathlib.Omega.{arith}
 use native.Mathlib.Decide.{ℕ-discrete}
-use Rattle.theory.specs.Sums.{sum, Among}
+use Rattle.theory.specs.Sums.{when, sum, Among}
+
+-- whoever counts on the left counts on the right
+pub when-up : (x y : Bool) → (x ≡ true → y ≡ true) → when x 1 ≤ when y 1
+when-up true y h = rw (h refl) (omega arith)
+when-up false y h = omega arith
+
+pub when-one : (x : Bool) → when x 1 ≤ 1
+when-one x = when-up x true (λ _. refl)
 
 pub sum-mono : (k s : ℕ) (f g : ℕ → ℕ) → ((i : ℕ) → Among k s i → f i ≤ g i) → sum k s f ≤ sum k s g
 sum-mono zero s f g h = omega arith

@@ -17,23 +17,11 @@ abbrev μ-loop : tie.MeasureT-loop
 loop-holds : tie.Need-loop-holds Inv-loop μ-loop
 loop-holds c = (omega arith, record { filled = filled-none _ 6 _ refl; small = λ k. omega (arith, zeros-at 6 k) })
 
-add-payoff : tie.Need-add-payoff Inv-loop μ-loop
-add-payoff c = omega arith
-
 payoff-requires : tie.Need-payoff-requires Inv-loop μ-loop
 payoff-requires c κs = (omega arith, omega arith, omega arith, omega arith, c .before .before .pre .3)
 
-mul-left : tie.Need-mul-left Inv-loop μ-loop
-mul-left c = omega arith
-
 array-write-left : tie.Need-array-write-left Inv-loop μ-loop
 array-write-left c = omega (arith, c .before .before .loop .inv .1 .filled .long)
-
-add-i : tie.Need-add-i Inv-loop μ-loop
-add-i c = omega arith
-
-loop-less : tie.Need-loop-less Inv-loop μ-loop
-loop-less c = omega arith
 
 loop-again : tie.Need-loop-again Inv-loop μ-loop
 loop-again c = (omega arith, read-next (c .payoff .result) (c .before .before .loop .inv .1) (omega arith) (c .payoff .ensures .is) (c .payoff .ensures .most))
@@ -44,15 +32,5 @@ returns c = (c .before .loop .inv .1 .small, read-end (c .before .before .args .
 pub payoffs-spec : {M : Type 1} → statement M
 payoffs-spec =
     tie.close
-    (tie.spec
-    Inv-loop
-    μ-loop
-    loop-holds
-    add-payoff
-    payoff-requires
-    mul-left
-    array-write-left
-    add-i
-    loop-less
-    loop-again
-    returns)
+    (tie.spec Inv-loop μ-loop loop-holds (λ c. omega arith) payoff-requires (λ c. omega arith) array-write-left
+    (λ c. omega arith) (λ c. omega arith) loop-again returns)

@@ -1,85 +1,87 @@
--- `raising::raise` meets its contract. The invariant: the first k prices are raised.
-use mathlib.Core.Path.{_∙_}
+-- `raising::raise` meets its contract. The invariant: the rows of the members before i are raised.
 use mathlib.Core.Logic.{⊎-elim}
-use Prim.Native.Nat.{_-_, _≤_}
+use mathlib.Core.Path.{_≡_, refl, sym, ap, _∙_}
+use Prim.Native.Nat.{_+_, _-_, _≤_}
 use native.Mathlib.Omega.{arith}
-use lib.ListN.{set}
-use Rattle.theory.proofs.Loops.{Filled, filled-none, filled-more, filled-all}
-use Rattle.owners.specs.Owners.{member}
-use Rattle.owners.specs.Prices.{plain}
-use Rattle.owners.specs.Quick.{risenAt, raisedBy}
-use Rattle.owners.specs.Singles.{worth}
+use lib.ListN.{length}
+use Rattle.owners.specs.Singles.{AtMost}
 use Rattle.supply.specs.Supply.{owed}
-use Rattle.raising.proofs.Rising.{risen-up, risen-not}
+use Rattle.raising.proofs.Rising.{raisedTo, rows-small, rows-none, rows-long, rows-in, rows-out, rows-end}
 use Rattle.raising.proofs.raise.Statement.{statement}
 use Rattle.raising.proofs.raise.Tie as tie
 
 abbrev Inv-loop : tie.InvT-loop
-Inv-loop worths payoffs buyers all set prices next₀ k₀ next k =
-    (k ≤ 96) × Filled (risenAt (plain buyers) all (worth worths) (member set) (owed payoffs) prices) 96 k next
+Inv-loop worths payoffs prices₀ buyers all set i₀ prices i =
+    (1 ≤ i) × (i ≤ buyers + 1) × (prices ≡ raisedTo buyers all worths set (owed payoffs) prices₀ i)
 
 abbrev μ-loop : tie.MeasureT-loop
-μ-loop worths payoffs buyers all set prices next₀ k₀ next k = 96 - k
+μ-loop worths payoffs prices₀ buyers all set i₀ prices i = buyers + 1 - i
+
+module _ (l : tie.At-loop Inv-loop μ-loop) where
+  long : length (l .loop .prices) ≡ 96
+  long =
+      let a = l .before .before .args in
+      ap length (l .loop .inv .2)
+      ∙ rows-long (a .buyers) (a .all) (a .worths .now) (a .set) (owed (a .payoffs .now)) (a .prices .now) (l .loop .i)
+
+  small : AtMost 60001 (l .loop .prices)
+  small =
+      let z = l .before .before in
+      let a = z .args in
+      rw (l .loop .inv .2)
+      (rows-small (a .buyers) (a .all) (a .worths .now) (a .set) (owed (a .payoffs .now)) (a .prices .now) (l .loop .i)
+      60000 (z .pre .4))
 
 loop-holds : tie.Need-loop-holds Inv-loop μ-loop
-loop-holds c = (omega arith, filled-none _ 96 _ (omega arith))
+loop-holds c =
+    let z = c .before in (
+      omega arith,
+      omega arith,
+      rows-none (z .args .buyers) (z .args .all) (z .args .worths .now) (z .args .set) (owed (z .args .payoffs .now)) _
+          (z .pre .3),
+    )
 
-mul-p : tie.Need-mul-p Inv-loop μ-loop
-mul-p c = omega arith
-
-array-read-p : tie.Need-array-read-p Inv-loop μ-loop
-array-read-p c = omega arith
-
-rises-requires : tie.Need-rises-requires Inv-loop μ-loop
-rises-requires c κs = omega arith
-
-add-next : tie.Need-add-next Inv-loop μ-loop
-add-next c = let l = c .before .before .before in omega (arith, l .before .pre .2 (l .loop .k))
-
-mul-next : tie.Need-mul-next Inv-loop μ-loop
-mul-next c = omega arith
-
-array-write-next : tie.Need-array-write-next Inv-loop μ-loop
-array-write-next c = omega arith
-
-add-k : tie.Need-add-k Inv-loop μ-loop
-add-k c = omega arith
-
-loop-less : tie.Need-loop-less Inv-loop μ-loop
-loop-less c = omega arith
+raise-row-requires : tie.Need-raise-row-requires Inv-loop μ-loop
+raise-row-requires c κs =
+    let l = c .before .before .before .before .before in
+    let z = l .before .before in
+    (omega arith, omega arith, z .pre .1, z .pre .2, long l, small l)
 
 loop-again : tie.Need-loop-again Inv-loop μ-loop
 loop-again c =
     let l = c .before .before .before in
-    let z = l .before .args in
-    let e = c .before .rises .ensures in (
+    let z = l .before .before in
+    let a = z .args in
+    let e = c .before .is-member .ensures in
+    let π = owed (a .payoffs .now) in
+    ⊎-elim
+    (λ w. (
       omega arith,
-      filled-more _ 96 _ _ _ (omega arith)
-          (⊎-elim
-          (λ w. w .1 ∙ risen-up (z .buyers) (z .all) (z .worths .now) (z .set) (owed (z .payoffs .now)) (z .t3) (l .loop .k) _ e (w .0 .taken))
-          (λ w. w .1 ∙ risen-not (z .buyers) (z .all) (z .worths .now) (z .set) (owed (z .payoffs .now)) (z .t3) (l .loop .k) _ e (w .0 .left))
-          (c .if1 .came))
-          (l .loop .inv .1),
-    )
+      omega arith,
+      w .6 ∙ w .3 .ensures ∙ rows-in (a .buyers) (a .all) (a .worths .now) (a .set) π (a .prices .now) (l .loop .i)
+          (l .loop .inv .0) (omega arith) (z .pre .0) (sym e ∙ w .0 .taken) (l .loop .prices) (l .loop .inv .2) _ refl,
+    ))
+    (λ w. (
+      omega arith,
+      omega arith,
+      w .1 ∙ l .loop .inv .2 ∙ rows-out (a .buyers) (a .all) (a .worths .now) (a .set) π (a .prices .now) (l .loop .i)
+          (l .loop .inv .0) (omega arith) (z .pre .0) (sym e ∙ w .0 .left),
+    ))
+    (c .if1 .came)
+
+same-length : tie.Need-same-length Inv-loop μ-loop
+same-length c = long (c .before) ∙ sym (c .before .before .before .pre .3)
 
 returns : tie.Need-returns Inv-loop μ-loop
-unfolding raisedBy
-returns c = filled-all _ 96 _ _ (omega arith) (c .before .loop .inv .1)
+returns c =
+    let l = c .before in
+    let a = l .before .before .args in
+    l .loop .inv .2
+    ∙ rows-end (a .buyers) (a .all) (a .worths .now) (a .set) (owed (a .payoffs .now)) (a .prices .now) (l .loop .i)
+    (omega arith)
 
 pub raise-spec : {M : Type 1} → statement M
 raise-spec =
     tie.close
-    (tie.spec
-    Inv-loop
-    μ-loop
-    loop-holds
-    mul-p
-    array-read-p
-    rises-requires
-    add-next
-    mul-next
-    array-write-next
-    add-k
-    loop-less
-    loop-again
-    returns)
+    (tie.spec Inv-loop μ-loop loop-holds (λ c κs. omega arith) (λ c. omega arith) (λ c. omega arith) (λ c. omega arith)
+    raise-row-requires (λ c. omega arith) (λ c. omega arith) loop-again same-length returns)

@@ -19,12 +19,6 @@ abbrev μ-loop : tie.MeasureT-loop
 loop-holds : tie.Need-loop-holds Inv-loop μ-loop
 loop-holds c = (omega arith, filled-none _ 64 _ refl)
 
-mul-next : tie.Need-mul-next Inv-loop μ-loop
-mul-next c = omega arith
-
-element-copy-out-next : tie.Need-element-copy-out-next Inv-loop μ-loop
-element-copy-out-next c = omega arith
-
 add-next : tie.Need-add-next Inv-loop μ-loop
 add-next c = let l = c .before .before in omega (arith, l .before .pre .3 (l .loop .k))
 
@@ -34,17 +28,8 @@ payoff-of-requires c κs = (omega arith, c .before .before .before .pre .2)
 sub-next : tie.Need-sub-next Inv-loop μ-loop
 sub-next c = omega (arith, c .payoff-of .ensures .most)
 
-mul-next-2 : tie.Need-mul-next-2 Inv-loop μ-loop
-mul-next-2 c = omega arith
-
 array-write-next : tie.Need-array-write-next Inv-loop μ-loop
 array-write-next c = omega (arith, c .before .before .before .loop .inv .1 .long)
-
-add-k : tie.Need-add-k Inv-loop μ-loop
-add-k c = omega arith
-
-loop-less : tie.Need-loop-less Inv-loop μ-loop
-loop-less c = omega arith
 
 loop-again : tie.Need-loop-again Inv-loop μ-loop
 loop-again c =
@@ -60,18 +45,5 @@ returns c = λ k h. c .before .loop .inv .1 .done k (omega (arith, c .before .be
 pub gains-spec : {M : Type 1} → statement M
 gains-spec =
     tie.close
-    (tie.spec
-    Inv-loop
-    μ-loop
-    loop-holds
-    mul-next
-    element-copy-out-next
-    add-next
-    payoff-of-requires
-    sub-next
-    mul-next-2
-    array-write-next
-    add-k
-    loop-less
-    loop-again
-    returns)
+    (tie.spec Inv-loop μ-loop loop-holds (λ c. omega arith) (λ c. omega arith) add-next payoff-of-requires sub-next
+    (λ c. omega arith) array-write-next (λ c. omega arith) (λ c. omega arith) loop-again returns)

@@ -12,13 +12,10 @@ returns c =
     let none : z .absent ≡ 0 = omega (arith, c .if1 .taken) in
     rw none (inside-all (z .buyers) (z .k))
 
-is-member-requires : tie.Need-is-member-requires
-is-member-requires c κs = search needs
-
 returns-2 : tie.Need-returns-2
 returns-2 c =
     let z = c .before .before in
     inside-but (z .args .buyers) (z .args .absent) (z .args .k) _ (c .before .if1 .left) (z .pre .1) (c .is-member .ensures)
 
 pub is-inside-spec : {M : Type 1} → statement M
-is-inside-spec = tie.close (tie.spec returns is-member-requires returns-2)
+is-inside-spec = tie.close (tie.spec returns (λ c κs. search needs) returns-2)

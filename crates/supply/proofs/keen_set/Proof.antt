@@ -25,23 +25,8 @@ module _ (l : tie.At-loop Inv-loop μ-loop) where
 mul-set : tie.Need-mul-set Inv-loop μ-loop
 mul-set c = omega (arith, small (c .before))
 
-sub-if1 : tie.Need-sub-if1 Inv-loop μ-loop
-sub-if1 c = omega arith
-
-mul-if1 : tie.Need-mul-if1 Inv-loop μ-loop
-mul-if1 c = omega arith
-
-element-copy-out-if1 : tie.Need-element-copy-out-if1 Inv-loop μ-loop
-element-copy-out-if1 c = omega arith
-
 add-set : tie.Need-add-set Inv-loop μ-loop
 add-set c = omega (arith, small (c .before .before .before))
-
-sub-i : tie.Need-sub-i Inv-loop μ-loop
-sub-i c = omega arith
-
-loop-less : tie.Need-loop-less Inv-loop μ-loop
-loop-less c = omega arith
 
 loop-again : tie.Need-loop-again Inv-loop μ-loop
 loop-again c =
@@ -66,16 +51,5 @@ returns c =
 pub keen-set-spec : {M : Type 1} → statement M
 keen-set-spec =
     tie.close
-    (tie.spec
-    Inv-loop
-    μ-loop
-    loop-holds
-    mul-set
-    sub-if1
-    mul-if1
-    element-copy-out-if1
-    add-set
-    sub-i
-    loop-less
-    loop-again
-    returns)
+    (tie.spec Inv-loop μ-loop loop-holds mul-set (λ c. omega arith) (λ c. omega arith) (λ c. omega arith) add-set
+    (λ c. omega arith) (λ c. omega arith) loop-again returns)
