@@ -1,12 +1,14 @@
--- All that is claimed of sales, together (`sales-hold`). Assumes nothing.
-use mathlib.Core.Path.{refl}
+-- All that is claimed of sales, together (`sales-hold`); a sale has one answer (`one-answer`). Assumes nothing.
+use mathlib.Core.Path.{refl, sym, _∙_}
 use Rattle.sheet.specs.Sheets.{sheetOf}
 use Rattle.theory.proofs.Auction.{undersupplied-keen}
 use Rattle.owners.specs.Owners.{member}
 use Rattle.demand.proofs.Demands.{demand-below}
 use Rattle.sale.specs.Words.{market, theAuction, quote}
 use Rattle.sale.specs.Claims.{Sales}
+use Rattle.sale.specs.Answers.{OneAnswer}
 use Rattle.sale.proofs.Demanding as demanding
+use Rattle.sale.proofs.Kept.{from-round}
 use Rattle.sale.proofs.Lists as lists
 use Rattle.sale.proofs.Present as present
 use Rattle.sale.proofs.Supplying as supplying
@@ -33,6 +35,7 @@ sales-hold b accepted =
         keen-means = demanding.keen-means b accepted ps prices;
         fits-means = supplying.fits-means b accepted ps prices;
         undersupplied-means = supplying.undersupplied-means b accepted ps prices;
+        supplied-means = supplying.supplied-means b accepted ps prices;
         all-keen = λ set all.
             undersupplied-keen (market w) (quote w ps) (theAuction w .economies) (member set) (member all);
         settled-iff-uce = theorems.settled-iff-uce b accepted ps prices;
@@ -49,5 +52,9 @@ sales-hold b accepted =
         price-bound = theorems.price-bound b accepted k l;
         absent-zero = theorems.absent-zero b accepted k l;
       };
+      kept = from-round b accepted;
       second = theorems.demand-2 b accepted;
     }
+
+pub one-answer : OneAnswer
+one-answer b o o₁ o₂ r₁ r₂ x y = (x .answer ∙ sym (y .answer), x .bytes ∙ sym (y .bytes))

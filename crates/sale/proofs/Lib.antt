@@ -6,4 +6,5 @@ pub mod Demanding
 pub mod Supplying
 pub mod Present
 pub mod Opening
+pub mod Kept
 pub mod Claimed

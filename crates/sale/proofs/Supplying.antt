@@ -1,5 +1,6 @@
--- What a fitting allocation and an undersupplied set are, at any ninety-six prices of an accepted sheet (`fits-means`,
--- `undersupplied-means`); an economy by its number (`economy-number`, `number-economy`). Assumes nothing.
+-- What a fitting allocation, a set supplied in an economy and an undersupplied set are, at any ninety-six prices of an
+-- accepted sheet (`fits-means`, `supplied-means`, `undersupplied-means`); an economy by its number (`economy-number`,
+-- `number-economy`). Assumes nothing.
 use mathlib.Core.Path.{_≡_, refl, sym, subst, _∙_}
 use mathlib.Core.Logic.{_≢_, _⊎_, _↔_}
 use mathlib.Core.Bool.{true, not, _&&_}
@@ -21,7 +22,7 @@ use Rattle.sheet.specs.Sheets.{Sheet, sheetOf}
 use Rattle.sheet.specs.Questions.{sheetFault}
 use Rattle.sale.specs.Words.{priceAt, allocations, market, theAuction, economy, quote, isKeen, fits}
 use Rattle.sale.specs.Words.{undersupplied}
-use Rattle.sale.specs.Claims.{Prices, Demanded}
+use Rattle.sale.specs.Claims.{Prices, Demanded, economyAt, suppliedAt}
 use Rattle.sale.proofs.Lists.{bundle-below, economy-fewer}
 use Rattle.sale.proofs.Demanding.{wants-means}
 
@@ -51,6 +52,10 @@ module _ (w : Sheet) where
     (refl, λ j q. refl),
   )
 
+  at-number : (e : ℕ) → Numbers w (economyAt w e) e
+  at-number zero = (refl, all-present)
+  at-number (suc e) = (refl, λ i r. refl)
+
 module _ (b : List ℕ) (accepted : sheetFault b .number ≡ 0) (ps : List ℕ) (prices : Prices ps) where
   abbrev w : Sheet
   w = sheetOf b
@@ -78,10 +83,10 @@ module _ (b : List ℕ) (accepted : sheetFault b .number ≡ 0) (ps : List ℕ) 
   abbrev Served : ℕ → ℕ → List ℕ → Type 0
   Served set e a = (i : ℕ) → Among (w .buyers) 1 i → i ≢ e → member set i ≡ true → Demanded w ps i (market w .holds a i)
 
-  supplied-means : (set e : ℕ) (y : Economy (List ℕ)) → Numbers w y e →
+  served-means : (set e : ℕ) (y : Economy (List ℕ)) → Numbers w y e →
       Means (supplied (market w) (quote w ps) (member set) y)
       ((a : List ℕ) × (a ∈ economy w e) × (fits w ps e a ≡ true) × Served set e a)
-  supplied-means set e y (lists, present) =
+  served-means set e y (lists, present) =
       means-via (auction.supplied-means (market w) (quote w ps) (member set) y)
       (λ (a, k, (fit, suits)).
       let k′ = subst (λ l. a ∈ l) lists k in (
@@ -104,6 +109,10 @@ module _ (b : List ℕ) (accepted : sheetFault b .number ≡ 0) (ps : List ℕ) 
         ),
       ))
 
+  pub supplied-means : (e set : ℕ) → (suppliedAt w ps e set ≡ true) ↔
+      ((a : List ℕ) × (a ∈ economy w e) × (fits w ps e a ≡ true) × Served set e a)
+  supplied-means e set = served-means set e (economyAt w e) (at-number w e)
+
   pub undersupplied-means : (set : ℕ) → (undersupplied w ps set ≡ true) ↔
       (((i : ℕ) → Among (w .buyers) 1 i → member set i ≡ true → isKeen w ps i ≡ true)
       × ((e : ℕ) × (e ≤ w .buyers) × ((a : List ℕ) → a ∈ economy w e → fits w ps e a ≡ true → Served set e a → ⊥)))
@@ -111,7 +120,7 @@ module _ (b : List ℕ) (accepted : sheetFault b .number ≡ 0) (ps : List ℕ) 
       means-via (auction.undersupplied-means (market w) (quote w ps) (theAuction w .economies) (member set))
       (λ (keen, (y, k, short)).
       let (e, h, numbers) = economy-number w y k in
-      (keen, (e, h, λ a k fit served. short (supplied-means set e y numbers .1 (a, k, fit, served)))))
+      (keen, (e, h, λ a k fit served. short (served-means set e y numbers .1 (a, k, fit, served)))))
       (λ (keen, (e, h, none)).
       let (y, k, numbers) = number-economy w e h in
-      (keen, (y, k, λ x. let (a, k, fit, served) = supplied-means set e y numbers .0 x in none a k fit served)))
+      (keen, (y, k, λ x. let (a, k, fit, served) = served-means set e y numbers .0 x in none a k fit served)))

@@ -1,4 +1,5 @@
--- What the public functions answer, for every sheet, record and price table: `demandAnswer`, `saleAnswer`, `saleRecord`.
+-- What the public functions answer, for every sheet, record and price table: `demandAnswer`, `saleAnswer`,
+-- `saleRecord`; and that a sale has one answer (`OneAnswer`).
 use mathlib.Core.Path.{_≡_}
 use mathlib.Core.Bool.{false}
 use mathlib.Core.List.{List}
@@ -91,3 +92,8 @@ saleRecord b o = onward (accepts (saleFault b (length o))) (λ _. over (saleSets
 pub record SaleSays (b o o′ : List ℕ) (r : Sale) : Type 0 where
   pub answer : r ≡ saleAnswer b (length o)
   pub bytes : o′ ≡ saleRecord b o
+
+-- there is one such answer and record after for a sheet's bytes and the record before
+abbrev pub OneAnswer : Type 0
+OneAnswer =
+    (b o o₁ o₂ : List ℕ) (r₁ r₂ : Sale) → SaleSays b o o₁ r₁ → SaleSays b o o₂ r₂ → (r₁ ≡ r₂) × (o₁ ≡ o₂)

@@ -1,18 +1,19 @@
 -- What is claimed of sales (`Sales`): of every accepted sheet, of its allocations, at any prices (`AtPrices`, with universal competitive equilibria as the paper has
--- them), at every round (`AtRound`), and demand 2 as one record.
+-- them), at every round (`AtRound`), from one to the next (`FromRound`), and demand 2 as one record.
 use mathlib.Core.Path.{_≡_}
 use mathlib.Core.Logic.{_≢_, _⊎_, _↔_}
-use mathlib.Core.Bool.{true, false, _&&_}
+use mathlib.Core.Bool.{Bool, true, false, not, _&&_}
 use mathlib.Core.List.{List}
 use Prim.Native.Nat.{ℕ, suc, _+_, _-_, _*_, _^_, _≤_, _<_}
 use lib.ListN.{length, getD, replicate}
 use Rattle.theory.specs.Sums.{Among, when}
 use Rattle.theory.specs.Lists.{_∈_, Ordered, sumOver}
 use Rattle.theory.specs.Markets.{sumOf, total}
-use Rattle.theory.specs.Auction.{Minimal, size}
+use Rattle.theory.specs.Auction.{Economy, Minimal, supplied, size}
 use Rattle.numbers.specs.Numbers.{bit}
 use Rattle.owners.specs.Owners.{ComesBefore, lacks, member}
 use Rattle.owners.specs.Prices.{plain, read}
+use Rattle.owners.specs.Quick.{presentIn}
 use Rattle.sheet.specs.Sheets.{Sheet, sheetOf}
 use Rattle.sheet.specs.Questions.{sheetFault}
 use Rattle.sale.specs.Words.{worthOf, priceAt, allocations, market, theAuction, economy, best, quote, demandSet, isKeen, revenue, fits, undersupplied, lowest}
@@ -51,6 +52,19 @@ module _ (w : Sheet) where
   abbrev pub UCE : List ℕ → Type 0
   UCE ps = (e : ℕ) → e ≤ w .buyers → (a : List ℕ) × Supports ps e a
 
+  -- an economy by its number (rule 4.4): its allocations, and who is present
+  abbrev pub economyAt : ℕ → Economy (List ℕ)
+  economyAt e = record { lists = economy w e; present = presentIn e }
+
+  -- in economy e some fitting allocation gives every member present a demanded bundle: the set is not undersupplied
+  -- there (rule 4.7)
+  abbrev pub suppliedAt : List ℕ → ℕ → ℕ → Bool
+  suppliedAt ps e set = supplied (market w) (quote w ps) (member set) (economyAt e)
+
+  -- how many members of the set are present in economy e
+  abbrev pub membersAt : ℕ → ℕ → ℕ
+  membersAt e set = sumOf (market w) (λ i. when (presentIn e i && member set i) 1)
+
   -- the allocations are all owner lists of the sheet's lots, in order; an economy has those that give its absent buyer nothing
   pub record Allocated : Type 0 where
     pub allocations-all : (a : List ℕ) → (a ∈ allocations w) ↔ ((length a ≡ w .lots) × ((o : ℕ) → o ∈ a → o ≤ w .buyers))
@@ -85,6 +99,10 @@ module _ (w : Sheet) where
         (((i : ℕ) → Among (w .buyers) 1 i → member set i ≡ true → isKeen w ps i ≡ true)
         × ((e : ℕ) × (e ≤ w .buyers) × ((a : List ℕ) → a ∈ economy w e → fits w ps e a ≡ true →
         ((i : ℕ) → Among (w .buyers) 1 i → i ≢ e → member set i ≡ true → Demanded ps i (market w .holds a i)) → ⊥)))
+    -- what a set supplied in one economy is, by the same
+    pub supplied-means : (e set : ℕ) → (suppliedAt ps e set ≡ true) ↔
+        ((a : List ℕ) × (a ∈ economy w e) × (fits w ps e a ≡ true)
+        × ((i : ℕ) → Among (w .buyers) 1 i → i ≢ e → member set i ≡ true → Demanded ps i (market w .holds a i)))
     -- if some set is undersupplied, then so is that of all keen buyers
     pub all-keen : (set all : ℕ) → undersupplied w ps set ≡ true →
         ((i : ℕ) → Among (w .buyers) 1 i → member all i ≡ isKeen w ps i) → undersupplied w ps all ≡ true
@@ -116,6 +134,16 @@ module _ (w : Sheet) where
   -- the recorded set of round k + 1
   abbrev pub setAt : ℕ → ℕ
   setAt k = getD (saleSets w) k 0
+
+  -- from the prices after k rounds to those after the next
+  pub record FromRound (k : ℕ) : Type 0 where
+    -- an economy's revenue (rule 4.5) rises by 1 for each member of the round's set that is present, less 1 exactly if
+    -- the set is undersupplied there; said as a sum, so that nothing is cut off
+    pub kept-revenues : (e : ℕ) → e ≤ w .buyers →
+        revenue w (pricesAfter w (suc k)) e + when (not (suppliedAt (pricesAfter w k) e (setAt k))) 1
+        ≡ revenue w (pricesAfter w k) e + membersAt e (setAt k)
+    -- no revenue falls
+    pub never-falls : (e : ℕ) → e ≤ w .buyers → revenue w (pricesAfter w k) e ≤ revenue w (pricesAfter w (suc k)) e
 
   pub record Demand-2 : Type 0 where
     -- the last prices are a UCE, and no earlier ones are
@@ -150,6 +178,7 @@ pub record Claimed (w : Sheet) : Type 0 where
   pub lists : Allocated w
   pub at-prices : (ps : List ℕ) → Prices ps → AtPrices w ps
   pub at-round : (k : ℕ) → k ≤ length (saleSets w) → AtRound w k
+  pub kept : (k : ℕ) → k < length (saleSets w) → FromRound w k
   pub second : Demand-2 w
 
 -- of every accepted sheet

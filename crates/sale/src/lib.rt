@@ -7,7 +7,7 @@ ghost use Rattle.sheet.specs.Sheets.{asSheet};
 ghost use Rattle.sheet.specs.Questions.{fault};
 ghost use Rattle.sale.specs.Rounds.{roundLimit};
 ghost use Rattle.sale.specs.Claims.{Sales};
-ghost use Rattle.sale.specs.Answers.{refusedDemand, refusedSale, soldBy};
+ghost use Rattle.sale.specs.Answers.{refusedDemand, refusedSale, soldBy, OneAnswer};
 use closing::Closing;
 use rounds::State;
 
@@ -99,5 +99,5 @@ pub fn settled(buyers: u8, lots: u8, s: State, c: Closing) -> Sale
 
 // Does nothing. Its contract has the theorems about sales, demand 2 among them, so that none can be dropped unseen.
 pub fn sales_hold()
-    ensures { λ _. ⌜ Sales ⌝ }
+    ensures { λ _. ⌜ Sales × OneAnswer ⌝ }
 {}
