@@ -71,18 +71,18 @@ fn told<T>(result: Result<T, impl Display>) -> Result<T, String> {
 }
 
 /// The programs, by their names.
-const SALE: &str = "sale_main";
+pub const SALE: &str = "sale_main";
 const WRITE: &str = "write_main";
 const TRIAL: &str = "trial_main";
 
 /// Where a program is. HOKEWHUNI_PROGRAMS names another folder.
-fn program_path(name: &str) -> PathBuf {
+pub fn program_path(name: &str) -> PathBuf {
     match env::var_os("HOKEWHUNI_PROGRAMS") {
         Some(folder) => Path::new(&folder).join(name),
         None => in_repository("target/bin").join(name),
     }
 }
 
-fn program(name: &str) -> Command {
+pub fn program(name: &str) -> Command {
     Command::new(program_path(name))
 }

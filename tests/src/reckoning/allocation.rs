@@ -24,7 +24,7 @@ pub fn includes(set: Buyers, members: Buyers) -> bool {
 #[derive(Clone, Debug, Default)]
 pub struct Allocation {
     pub owners: Owners,
-    bundles: [u8; MOST_BUYERS],
+    pub(super) bundles: [u8; MOST_BUYERS],
 }
 
 impl Allocation {

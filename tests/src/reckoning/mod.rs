@@ -5,6 +5,7 @@
 pub mod allocation;
 pub mod demand;
 pub mod direct;
+pub mod plain;
 pub mod print;
 pub mod round;
 pub mod sale;

@@ -162,13 +162,13 @@ impl Outcome {
 }
 
 /// The buyers of an economy, and the sets of buyers that its fitting allocations serve.
-struct Supply {
-    present: Buyers,
-    served: Vec<Buyers>,
+pub(super) struct Supply {
+    pub(super) present: Buyers,
+    pub(super) served: Vec<Buyers>,
 }
 
 /// Whether a set of keen buyers is undersupplied (rule 4.7).
-fn undersupplied(set: Buyers, supplies: &[Supply]) -> bool {
+pub(super) fn undersupplied(set: Buyers, supplies: &[Supply]) -> bool {
     supplies.iter().any(|supply| {
         let present = set & supply.present;
         !supply.served.iter().any(|&set| includes(set, present))

@@ -72,7 +72,7 @@ pub fn record_needed(sheet: &Sheet) -> usize {
 }
 
 /// The owners (rule 5.1), discounts (rule 5.2) and payments (rule 5.3).
-fn close(market: &Market, round: &Round, prices: &Prices) -> Closing {
+pub(super) fn close(market: &Market, round: &Round, prices: &Prices) -> Closing {
     let all = &market.economies[0];
     let first = round
         .fitting(all)

@@ -1,14 +1,18 @@
-//! Random sheets of every size with small worths, and small sizes with large ones.
+//! Random sheets of every size with small worths, sheets of every size with worths all 0, and small
+//! sizes with large worths.
 
 use crate::generator::{bytes_of, sizes, Generator};
 use crate::reckoning::sale::record_needed;
 use crate::tally::Tally;
 
-/// The greatest worths of the sheets of every size.
-const TOPS: [u16; 3] = [3, 6, 12];
+/// The greatest worths of the sheets of every size. With the least of them most bundles tie.
+const TOPS: [u16; 5] = [1, 2, 3, 6, 12];
 
 /// Sheets drawn for each size and greatest worth.
 const DRAWN: usize = 300;
+
+/// The bytes of the records of sales that have no round.
+const SPARE: usize = 8;
 
 /// Buyers, lots and the greatest worth of sheets whose sales stay short enough.
 pub const LARGE: [(usize, usize, u16); 8] = [
@@ -32,6 +36,14 @@ pub fn compare(tally: &mut Tally, generator: &mut Generator) {
                 for _ in 0..DRAWN {
                     sell(tally, generator, (buyers, lots, top));
                 }
+            }
+        }
+    });
+    tally.group("sales of sheets with worths all 0", |tally| {
+        for (buyers, lots) in sizes() {
+            let sheet = bytes_of(&generator.monotone_up_to(buyers, lots, 0));
+            for length in [0, SPARE] {
+                tally.sale(&sheet, &generator.bytes(length));
             }
         }
     });

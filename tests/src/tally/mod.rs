@@ -8,7 +8,7 @@ use hokewhuni::raw;
 use crate::generator::Generator;
 use crate::reckoning::sheet::{read_field, read_sheet, Answer, Field, FIELD, FIRST_LINE};
 
-mod bare;
+pub mod bare;
 mod direct;
 mod lent;
 mod prints;
