@@ -22,7 +22,7 @@ use Rattle.owners.proofs.Singles.{limit-small, sale-hall, sale-worths}
 use Rattle.rounds.specs.declared.State.{State}
 use Rattle.supply.specs.Supply.{shift, at}
 use Rattle.coalitions.specs.Values.{Valued}
-use Rattle.rounds.specs.Rounds.{Known, Tables, KeptAt, Opens, Sold, lowestAt, stepAt}
+use Rattle.rounds.specs.Rounds.{Tables, KeptAt, Opens, Sold, lowestAt, stepAt}
 use Rattle.rounds.proofs.Going.{Going, Done}
 
 pub start-none : AtMost 0 startPrices
@@ -32,6 +32,14 @@ start-none k = omega (arith, zeros-at 96 k)
 pub start-long : length startPrices ≡ 96
 unfolding startPrices
 start-long = refl
+
+-- what stays the same in all rounds of a sale
+pub record Known (m all : ℕ) (ws values : List ℕ) : Type 0 where
+  pub few : m ≤ 6
+  pub two : 2 ≤ all
+  pub short : all ≤ 16
+  pub worths : AtMost 9999 ws
+  pub totals : AtMost 59994 values
 
 -- `all` is the number of bundles
 pub known : {m n f all : ℕ} {ws values o : List ℕ} → Opens m n ws f o → Valued m n ws values → all ≡ 2 ^ n → Known m all ws values

@@ -1,6 +1,6 @@
 -- A round and a sale as the code takes them. Offers `lowestAt` and `stepAt`, the choice and the raise by coalition
--- values, what is kept from round to round (`KeptAt`), and what the functions ask (`Known`, `Ready`, `Opens`) and
--- answer (`Round`, `TurnAt`, `Sold`); `Sold` is by the definition's rounds alone.
+-- values, what is kept from round to round (`KeptAt`), and what the functions ask (`Ready`, `Small`, `Opens`) and answer
+-- (`Round`, `TurnAt`, `Sold`); `Sold` is by the definition's rounds alone.
 use mathlib.Core.Path.{_≡_}
 use mathlib.Core.List.{List}
 use Prim.Native.Nat.{ℕ, _+_, _-_, _^_, _≤_}
@@ -24,14 +24,6 @@ lowestAt m top ws values ps = lowestBy (roster m) shift (at values) (left (plain
 -- the prices after a round that takes the set x, with bundles below `all`
 abbrev pub stepAt : ℕ → ℕ → List ℕ → ℕ → List ℕ → List ℕ
 stepAt m all ws x ps = raisedBy (plain m) all (worth ws) (member x) (left (plain m) (worth ws) (all - 1) ps) ps
-
--- what stays the same in all rounds of a sale
-pub record Known (m all : ℕ) (ws values : List ℕ) : Type 0 where
-  pub few : m ≤ 6
-  pub two : 2 ≤ all
-  pub short : all ≤ 16
-  pub worths : AtMost 9999 ws
-  pub totals : AtMost 59994 values
 
 -- a round from prices ps, after n rounds, with the rest of the record before and after it: where no set is undersupplied nothing changes, else the
 -- set's number is the next byte, and the prices rise

@@ -8,14 +8,13 @@
 #![forbid(unsafe_code)]
 
 use std::env;
-use std::fmt::Display;
 use std::fs;
 use std::process::ExitCode;
 
 use comparison::generator::{bytes_of, Generator};
 use comparison::halves::conclude;
 use comparison::process::run;
-use comparison::program::{program, program_path, SALE};
+use comparison::program::{program, program_path, told, SALE};
 use comparison::reckoning::print::printed;
 use comparison::reckoning::sale::{record_needed, Sale};
 use comparison::reckoning::sheet::{read_sheet, Refusal};
@@ -105,9 +104,9 @@ fn time() -> Result<ExitCode, String> {
     }
     let [plain, skipping, sharper] = parts;
     let asked = plain.max(skipping) <= ASKED;
-    println!("asked, 1/2 of plain and of skipping: {}", told(asked));
-    println!("aim, 1/400 of plain: {}", told(plain <= PLAIN));
-    println!("aim, 1/100 of sharper: {}", told(sharper <= SHARPER));
+    println!("asked, 1/2 of plain and of skipping: {}", yes_or_no(asked));
+    println!("aim, 1/400 of plain: {}", yes_or_no(plain <= PLAIN));
+    println!("aim, 1/100 of sharper: {}", yes_or_no(sharper <= SHARPER));
     time_program(&sales)?;
     Ok(if asked {
         ExitCode::SUCCESS
@@ -135,7 +134,7 @@ fn by_library() -> Result<(Vec<Sold>, Time), String> {
     let mut sales: Vec<Sold> = (0..SHEETS).map(sold).collect();
     let mut times = Vec::new();
     for _ in 0..TURNS {
-        let ((), time) = failing(timed(|| {
+        let ((), time) = told(timed(|| {
             for sold in &mut sales {
                 sold.answer = raw::run_sale(&sold.sheet, &mut sold.record);
             }
@@ -163,7 +162,7 @@ fn by_rust(sales: &[Sold]) -> Result<[Time; WAYS.len()], String> {
     for (number, sold) in sales.iter().enumerate() {
         for ((name, way), time) in WAYS.iter().zip(&mut times) {
             let mut record = vec![0; sold.record.len()];
-            let (sale, taken) = failing(timed(|| way(&sold.sheet, &mut record)))?;
+            let (sale, taken) = told(timed(|| way(&sold.sheet, &mut record)))?;
             let alike = record == sold.record && bare::sale(&sale) == sold.answer;
             if !alike || printed(&sale) != sold.print {
                 return Err(format!("library and {name} differ on trial sheet {number}"));
@@ -190,10 +189,10 @@ fn time_program(sales: &[Sold]) -> Result<(), String> {
         println!("the program {SALE} is not built");
         return Ok(());
     }
-    let before = failing(processor_of_children())?;
+    let before = told(processor_of_children())?;
     for _ in 0..TURNS {
         for (number, sold) in sales.iter().enumerate() {
-            let ended = failing(run(&mut program(SALE), &sold.sheet))?;
+            let ended = told(run(&mut program(SALE), &sold.sheet))?;
             if !ended.with(0) || ended.output != sold.print {
                 return Err(format!(
                     "the program's sale of trial sheet {number} differs"
@@ -201,24 +200,19 @@ fn time_program(sales: &[Sold]) -> Result<(), String> {
             }
         }
     }
-    let time = failing(processor_of_children())? - before;
+    let time = told(processor_of_children())? - before;
     let each = 1e3 * time / (TURNS * sales.len()) as f64;
     println!("program {SALE}: {each:.1} ms of processor time a sheet, mean of {TURNS} runs each");
-    println!("aim, {PROGRAM} ms a sheet: {}", told(each <= PROGRAM));
+    println!("aim, {PROGRAM} ms a sheet: {}", yes_or_no(each <= PROGRAM));
     Ok(())
 }
 
-fn told(reached: bool) -> &'static str {
+fn yes_or_no(reached: bool) -> &'static str {
     if reached {
         "yes"
     } else {
         "no"
     }
-}
-
-/// An error as what is told of it.
-fn failing<T>(result: Result<T, impl Display>) -> Result<T, String> {
-    result.map_err(|error| error.to_string())
 }
 
 /// Compares whole answers and records of this many sheets.

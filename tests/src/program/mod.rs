@@ -66,7 +66,7 @@ fn in_repository(path: &str) -> PathBuf {
 }
 
 /// An error as what is told of it.
-fn told<T>(result: Result<T, impl Display>) -> Result<T, String> {
+pub fn told<T>(result: Result<T, impl Display>) -> Result<T, String> {
     result.map_err(|error| error.to_string())
 }
 

@@ -6,11 +6,11 @@ use Prim.Native.Nat.{ℕ, _-_, _<_}
 use native.Mathlib.Omega.{arith}
 use lib.ListN.{length, take, drop, length-take, length-drop}
 use Rattle.supply.proofs.Keeping.{keeps-start}
-use Rattle.rounds.specs.Rounds.{Known, tables}
+use Rattle.rounds.specs.Rounds.{tables}
 use Rattle.rounds.proofs.Rising.{chosen-at, step-small}
 use Rattle.rounds.proofs.Going.{begun, goes-on, settles, one-more, kept, runs-out}
 use Rattle.rounds.proofs.Turning.{kept-small}
-use Rattle.rounds.proofs.Selling.{start-none, start-long, known, Running, sold}
+use Rattle.rounds.proofs.Selling.{start-none, start-long, Known, known, Running, sold}
 use Rattle.rounds.proofs.run_rounds.Statement.{statement}
 use Rattle.rounds.proofs.run_rounds.Tie as tie
 
