@@ -124,6 +124,16 @@ raised-small m all v set π ps c h =
     let t = rising (plain m) all v set π in
     tabulate-small 96 0 (c + 1) (risenPrice t ps) (λ k. omega (arith, h k, when-one (t (k / 16) (k - 16 * (k / 16)))))
 
+-- and leaves those of bundles that are not below `all`
+raised-past : (m all : ℕ) (v : Table) (set : ℕ → Bool) (π : ℕ → ℕ) (ps : List ℕ) (j s k : ℕ) → k ≡ 16 * j + s →
+    all ≤ s → s < 16 → k < 96 → getD (raisedBy (plain m) all v set π ps) k 0 ≡ getD ps k 0
+unfolding raisedBy
+raised-past m all v set π ps j s k ek past few h =
+    let row : k / 16 ≡ j = omega arith in
+    let bundle : k - 16 * (k / 16) ≡ s = omega arith in
+    risen-at (rising (plain m) all v set π) ps k h
+    ∙ rw (bundle, row, le-ltb s all past, and-false (leb 1 s), and-false (ltb j m)) (omega arith)
+
 -- a range that ends one later has its last number more
 ltb-more : (n i : ℕ) → (n ≡ i → ⊥) → ltb n i ≡ ltb n (i + 1)
 ltb-more n i h =
@@ -151,12 +161,9 @@ module _ (ws : List ℕ) (i left : ℕ) (lo : 1 ≤ i) (hi : i ≤ 6) (ps : List
 
     -- of the price at k nothing is changed so far
     pub row-at : getD next k 0 ≡ getD ps k 0
-    unfolding raisedBy
     row-at =
-        let row : k / 16 ≡ i - 1 = omega arith in
-        let bundle : k - 16 * (k / 16) ≡ s = omega arith in
-        ap (λ l. getD l k 0) so-far ∙ risen-at (own s) ps k (omega arith)
-        ∙ rw (bundle, row, le-ltb s s (omega arith), and-false (leb 1 s), and-false (ltb (i - 1) 6)) (omega arith)
+        ap (λ l. getD l k 0) so-far
+        ∙ raised-past 6 s (worth ws) _ _ ps (i - 1) s k refl (omega arith) few (omega arith)
 
     pub row-more : (w v : ℕ) → w ≡ getD ws k 0 → v ≡ getD next k 0 + when (leb left w) 1 →
         set next k v ≡ raisedRow (s + 1) ws i left ps

@@ -26,7 +26,7 @@ kept-small {m} {values = values} {k = k} few low kept =
     record {
       long = kept .long;
       payoffs = kept .keeps .small;
-      gains = gain-small m few values (k .payoffs) (k .gains) (k .revenues) (kept .keeps) low;
+      gains = gain-small m few values (k .payoffs) (k .gains) _ (kept .keeps) low;
       revenues = revenue-small m few values (k .payoffs) (k .gains) (k .revenues) (kept .keeps) low;
     }
 
@@ -56,10 +56,6 @@ module _
       let one : x ≡ suc (x - 1) = omega arith in (
         round-some _ _ (s .prices) (s .rounds) o x (chosen values kept) qs o′ some written step,
         record {
-          prices =
-              ap length raised
-              ∙ raised-long m all (worth ws) (member (x - 1)) (owed (k .payoffs)) (s .prices);
-          long = long;
           payoffs = λ i lo hi.
               fall i lo hi
               ∙ ap (λ n. n - when (member (x - 1) i) 1) (kept .payoffs i lo hi)
@@ -69,5 +65,9 @@ module _
               keeps-next m few values (k .payoffs) (k .gains) (k .revenues) (kept .keeps) (x - 1)
               (sym (by-values values kept) ∙ one)
               words supplied (k′ .payoffs) (k′ .gains) (k′ .revenues) small fall rise raise;
+          prices =
+              ap length raised
+              ∙ raised-long m all (worth ws) (member (x - 1)) (owed (k .payoffs)) (s .prices);
+          long = long;
         },
       )

@@ -54,10 +54,10 @@ pub record Long (k : Tables) : Type 0 where
 
 -- what is kept at the prices ps: payoffs as they are read off the prices, and the others by the values
 pub record KeptAt (m top : ℕ) (ws values ps : List ℕ) (k : Tables) : Type 0 where
-  pub prices : length ps ≡ 96
-  pub long : Long k
   pub payoffs : (i : ℕ) → 1 ≤ i → i ≤ m → owed (k .payoffs) i ≡ left (plain 6) (worth ws) top ps i
   pub keeps : Keeps m values (k .payoffs) (k .gains) (k .revenues)
+  pub prices : length ps ≡ 96
+  pub long : Long k
 
 -- r is 1 more than the number of the lowest undersupplied set, whatever the values that the tables are of
 abbrev pub Lowest : ℕ → Tables → ℕ → Type 0

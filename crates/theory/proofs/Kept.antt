@@ -40,6 +40,16 @@ module _ (R : Roster) (x : ℕ) where
     abbrev attending : ℕ → ℕ
     attending i = when (present i && R .member x i) 1
 
+    attend-both : (i : ℕ) → (present i && R .member x i ≡ true → R .member n i ≡ true) → attending i ≤ both i
+    attend-both i h =
+        when-up (present i && R .member x i) (R .member n i && R .member x i) (λ p.
+        and-means (itself (R .member n i)) (itself (R .member x i)) .1 (h p, present-means R present x i .0 p .1))
+
+    shared-all : Has R present x n → around R present x ≤ shared R x n
+    shared-all has =
+        sum-mono (R .many) (R .low) attending both
+        (λ i r. attend-both i (λ p. has i r (present-means R present x i .0 p)))
+
     module _ (h : inside R present n ≡ true) where
       both-attend : (i : ℕ) → Bidding i → both i ≤ attending i
       both-attend i r =
@@ -63,16 +73,6 @@ module _ (R : Roster) (x : ℕ) where
           lacking : (a b : Bool) → (a ⊃ b) ≡ false → (a ≡ true) × (b ≡ false)
           lacking true b p = (refl, p)
           lacking false b p = fails refl p
-
-    attend-both : (i : ℕ) → (present i && R .member x i ≡ true → R .member n i ≡ true) → attending i ≤ both i
-    attend-both i h =
-        when-up (present i && R .member x i) (R .member n i && R .member x i) (λ p.
-        and-means (itself (R .member n i)) (itself (R .member x i)) .1 (h p, present-means R present x i .0 p .1))
-
-    shared-all : Has R present x n → around R present x ≤ shared R x n
-    shared-all has =
-        sum-mono (R .many) (R .low) attending both
-        (λ i r. attend-both i (λ p. has i r (present-means R present x i .0 p)))
 
     -- a set with all members present but i shares at most 1 less
     shared-but : (i : ℕ) → Bidding i →
@@ -249,8 +249,7 @@ module _
             let (_, has) = present-means R present x i .0 (not-false _ w) in
             let (y, l, same) = ranks .fewer x i r has in
             let keen : Keens y =
-            λ j u h. lowest-keen j u
-            (and-means (itself (R .member x j)) (itself (without i j)) .0 (sym (same j u) ∙ h) .0) in
+            λ j u h. lowest-keen j u (and-means (itself (R .member x j)) (itself _) .0 (sym (same j u) ∙ h) .0) in
             revenue-short R shift value π wide x lowest-keen present p i r y same (lower-supplied y l keen))
 
 -- an auction whose sets are ranked by their numbers

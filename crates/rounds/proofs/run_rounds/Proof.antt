@@ -96,13 +96,13 @@ loop-holds c =
       going = begun start-none (t .start .ensures .0) (t .start .ensures .1);
       kept =
           record {
-            prices = ap length (t .start .ensures .0) ∙ start-long;
-            long = record { payoffs = omega arith; gains = omega arith; revenues = omega (arith, c .revenues .ok) };
             payoffs = π .payoffs .ensures .1;
             keeps =
                 keeps-start (v .before .before .args .buyers) (v .values .result) (π .payoffs .result)
                 (g .gains .result) (c .revenues .result) (π .payoffs .ensures .0) (g .gains .ensures)
                 (c .revenues .ensures);
+            prices = ap length (t .start .ensures .0) ∙ start-long;
+            long = record { payoffs = omega arith; gains = omega arith; revenues = omega (arith, c .revenues .ok) };
           };
     }
 
