@@ -31,7 +31,7 @@ const BUYERS: usize = 6;
 const LOTS: usize = 4;
 const TOP: usize = 9_999;
 
-/// The library sells all sheets so many times, and the program each of them.
+/// The library sells each sheet so many times, and so does the program.
 const TURNS: usize = 5;
 
 /// What was asked: the library's parts of the times of the plain sales are at most this.
@@ -85,15 +85,15 @@ const WAYS: [(&str, Way); 3] = [
 /// Times the sales by each and the program, and prints the times and what they come to.
 fn time() -> Result<ExitCode, String> {
     println!("machine: {}", machine());
-    let (sales, library) = by_library()?;
+    let sales: Vec<Sold> = (0..SHEETS).map(sold).collect();
     let rounds: u32 = sales.iter().map(|sold| sold.answer.rounds).sum();
     println!(
         "sales: trial sheets 0 to {}, {BUYERS} buyers, {LOTS} lots, top {TOP}; {rounds} rounds",
         SHEETS - 1
     );
-    let times = by_rust(&sales)?;
+    let (library, times) = by_each(&sales)?;
     println!("alike by all: records, rounds, last prices, owners, discounts, payments, prints");
-    println!("all sheets on one thread, library: median of {TURNS} turns; Rust: once");
+    println!("one thread, sheet by sheet: by the library the median of {TURNS} sales, in Rust one");
     print_time("library", library, rounds);
     for ((name, _), time) in WAYS.iter().zip(times) {
         print_time(name, time, rounds);
@@ -129,21 +129,6 @@ fn machine() -> String {
     name.map_or("unknown", |(_, name)| name).to_string()
 }
 
-/// The sales by the library, and the median time of selling all sheets.
-fn by_library() -> Result<(Vec<Sold>, Time), String> {
-    let mut sales: Vec<Sold> = (0..SHEETS).map(sold).collect();
-    let mut times = Vec::new();
-    for _ in 0..TURNS {
-        let ((), time) = told(timed(|| {
-            for sold in &mut sales {
-                sold.answer = raw::run_sale(&sold.sheet, &mut sold.record);
-            }
-        }))?;
-        times.push(time);
-    }
-    Ok((sales, Time::median(&times)))
-}
-
 /// A trial sheet, sold once, with a record of question 9's sum.
 fn sold(number: u16) -> Sold {
     let sheet = hokewhuni::drawn_sheet(number, BUYERS, LOTS, TOP).expect("a size in range");
@@ -156,10 +141,12 @@ fn sold(number: u16) -> Sold {
     }
 }
 
-/// The times of the sales in each way in Rust, which have to be like those by the library.
-fn by_rust(sales: &[Sold]) -> Result<[Time; WAYS.len()], String> {
-    let mut times = [Time::default(); WAYS.len()];
+/// The times of the sales by the library and in each way in Rust, which have to be alike. A sheet is
+/// sold by all before the next one is, so that what slows the machine for a while slows all.
+fn by_each(sales: &[Sold]) -> Result<(Time, [Time; WAYS.len()]), String> {
+    let (mut library, mut times) = (Time::default(), [Time::default(); WAYS.len()]);
     for (number, sold) in sales.iter().enumerate() {
+        library += by_library(sold)?;
         for ((name, way), time) in WAYS.iter().zip(&mut times) {
             let mut record = vec![0; sold.record.len()];
             let (sale, taken) = told(timed(|| way(&sold.sheet, &mut record)))?;
@@ -170,7 +157,21 @@ fn by_rust(sales: &[Sold]) -> Result<[Time; WAYS.len()], String> {
             *time += taken;
         }
     }
-    Ok(times)
+    Ok((library, times))
+}
+
+/// The median time of some sales by the library.
+fn by_library(sold: &Sold) -> Result<Time, String> {
+    let mut record = vec![0; sold.record.len()];
+    let mut times = Vec::new();
+    for _ in 0..TURNS {
+        let (answer, time) = told(timed(|| raw::run_sale(&sold.sheet, &mut record)))?;
+        if answer != sold.answer || record != sold.record {
+            return Err("two sales of one sheet by the library differ".to_string());
+        }
+        times.push(time);
+    }
+    Ok(Time::median(&times))
 }
 
 /// Prints the library's part of a time, and answers the greater of the two: on the processor or by
