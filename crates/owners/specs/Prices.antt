@@ -2,7 +2,7 @@
 -- and its bit in the number of a set. Offers `price`, `payoff`, `quote`, a round's raise (`raised`), and when a list `Holds` the prices of a
 -- sale's payoffs.
 use mathlib.Core.Path.{_≡_}
-use mathlib.Core.Bool.{Bool, true, _&&_}
+use mathlib.Core.Bool.{Bool, true, _&&_, _||_}
 use mathlib.Core.List.{List}
 use Prim.Native.Nat.{ℕ, suc, _+_, _-_, _*_, _/_, _≤_, _<_}
 use lib.Dec.{eqb, ltb, leb}
@@ -26,9 +26,35 @@ pub record Seated (S : Seats) (many low bits : ℕ) : Type 0 where
   pub sits : (i : ℕ) → Among many low i → (S .seat i < bits) × (S .taken (S .seat i) ≡ true) × (S .sitter (S .seat i) ≡ i)
   pub seats : (j : ℕ) → S .taken j ≡ true → Among many low (S .sitter j) × (S .seat (S .sitter j) ≡ j)
 
+-- how many bidders there are from `low` on: m buyers (low is 1), and the house (0)
+abbrev pub bidders : ℕ → ℕ → ℕ
+bidders low m = pick (eqb low 0) (suc m) m
+
+-- rule 1.6: tables have six rows of sixteen numbers, one to a buyer, and a seventh where there is a house
+abbrev pub rows : ℕ → ℕ
+rows low = pick (eqb low 0) 7 6
+
+-- buyer i has row i - 1, and the house, bidder 0, row 6
+abbrev pub row : ℕ → ℕ
+row i = pick (eqb i 0) 6 (i - 1)
+
+-- what stands in a table for bidder i and bundle s; the empty bundle has 0, whatever stands at its place
+abbrev pub entry : List ℕ → Table
+entry t i s = pick (eqb s 0) 0 (getD t (16 * row i + s) 0)
+
+-- the seats of m buyers, and of the house where `low` is 0
+abbrev pub seats : ℕ → ℕ → Seats
+seats low m =
+    record {
+      rows = rows low;
+      seat = λ i. pick (eqb low 0 && eqb i 0) 6 (i - 1);
+      sitter = λ j. pick (eqb low 0 && eqb j 6) 0 (suc j);
+      taken = λ j. (eqb low 0 && eqb j 6) || ltb j m;
+    }
+
 -- rule 1.6: m buyers, from 1 on, in six rows of sixteen prices
 abbrev pub plain : ℕ → Seats
-plain m = record { rows = 6; seat = λ i. i - 1; sitter = suc; taken = λ j. ltb j m }
+plain m = seats 1 m
 
 module _ (S : Seats) where
   abbrev pub seatMember : ℕ → ℕ → Bool
