@@ -1,3 +1,2 @@
--- Laws of what closes a sale (Closings), and of discounts and payments (Charges).
+-- What closes a sale, and the closing whole.
 pub mod Closings
-pub mod Charges

@@ -1,20 +1,35 @@
--- The closing of a sale of n lots among m buyers, at any prices. Offers `closesSale`, the test of an owner list, and `closingOwners`, the owners at the
--- closing.
-use mathlib.Core.Bool.{Bool}
-use mathlib.Core.List.{List, []}
-use Prim.Native.Nat.{ℕ, _-_, _^_}
-use Rattle.theory.specs.Auction.{closes}
-use Rattle.owners.specs.Owners.{allocations, zeroFirst, market, single, auction}
-use Rattle.owners.specs.Prices.{plain}
-use Rattle.owners.specs.Sales.{owners}
-use Rattle.owners.specs.Singles.{worth}
-use Rattle.demand.specs.Demands.{quoted}
+-- The closing of a sale, whole (`saleClosing`); and by words, whether every bidder demands what it owns, and whether a
+-- word closes the sale.
+use mathlib.Core.Bool.{Bool, _&&_}
+use mathlib.Core.List.{List}
+use Prim.Native.Nat.{ℕ, _-_}
+use lib.Dec.{eqb}
+use lib.ListN.{getD}
+use Rattle.theory.specs.Tests.{every}
+use Rattle.theory.specs.Auction.{Quote}
+use Rattle.owners.specs.Prices.{bidders}
+use Rattle.offers.specs.Offers.{Offer}
+use Rattle.offers.specs.Rounds.{ownersBy, discountFor, paymentFor}
+use Rattle.offers.specs.Places.{four, perBuyer}
+use Rattle.lists.specs.Words.{digit}
+use Rattle.totals.specs.Totals.{wordTotal}
+use Rattle.closing.specs.declared.Closing.{Closing}
 
--- an owner list closes the sale: it passes the test of rule 5.1
-abbrev pub closesSale : ℕ → ℕ → List ℕ → List ℕ → List ℕ → Bool
-closesSale m n ws ps a = closes (market m single) (quoted n ws ps) (quoted n ws ps .keen) (allocations (zeroFirst m) n) a
+abbrev pub saleClosing : Offer → List ℕ → Closing
+saleClosing O ps =
+    record {
+      owners = four (ownersBy O ps);
+      discounts = perBuyer (O .buyers) (discountFor O ps);
+      payments = perBuyer (O .buyers) (paymentFor O ps);
+    }
 
--- rule 5.1: the first list that closes the sale; where there is none, no owners
-abbrev pub closingOwners : ℕ → ℕ → List ℕ → List ℕ → List ℕ
-closingOwners m n ws ps =
-    owners (auction m n (zeroFirst m) single (2 ^ n - 1)) (plain m) (2 ^ n) (allocations (zeroFirst m) n) [] (worth ws) ps
+abbrev pub wordServed : ℕ → ℕ → Quote → ℕ → Bool
+wordServed low m q w = every (bidders low m) low (λ i. q .wants i (digit i w))
+
+-- it reaches the revenue T, and serves everybody: who is not keen demands the empty bundle
+abbrev pub wordCloses : ℕ → ℕ → Quote → List ℕ → ℕ → ℕ → Bool
+wordCloses low m q ps T w = eqb (wordTotal low m ps w) T && wordServed low m q w
+
+-- buyer i's discount, by the revenues of the economies
+abbrev pub discountBy : List ℕ → ℕ → ℕ
+discountBy revenues i = getD revenues 0 0 - getD revenues i 0

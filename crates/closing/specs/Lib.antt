@@ -1,3 +1,2 @@
 -- The closing: owners, discounts, payments.
 pub mod Closings
-pub mod Charges

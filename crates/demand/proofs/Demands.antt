@@ -1,44 +1,49 @@
--- What a demand set's number says (`demand-bit`, `demand-below`), and who is keen (`keen-empty`). The idea: a sum of powers of two is the number that has
--- them as its bits. Assumes nothing.
-use mathlib.Core.Path.{_≡_, refl, ap, _∙_}
-use mathlib.Core.Bool.{Bool, not}
+-- By a table's rows a bidder of an offer answers as the definitions say (`entry-is`, `wants-is`, `keen-is`,
+-- `demand-set-is`), and is keen if it does not demand the empty bundle (`keen-empty`).
+use mathlib.Core.Path.{_≡_, refl, ap, ap₂}
+use mathlib.Core.Bool.{not}
 use mathlib.Core.List.{List}
-use Prim.Native.Nat.{ℕ, zero, suc, _*_, _^_, _≤_, _<_}
-use native.Mathlib.Nat.{zero-add, one-mul, pow-succ'}
+use Prim.Native.Nat.{ℕ, _+_, _-_, _^_}
 use native.Mathlib.Omega.{arith}
-use Rattle.theory.specs.Sums.{when, sum, Among}
-use Rattle.theory.specs.Auction.{Quote}
+use lib.Dec.{eqb, ltb}
+use borrow.Author.Tests.{ne-eqb, eqb-false}
+use Rattle.theory.specs.Sums.{when}
+use Rattle.theory.specs.Lists.{upTo}
+use Rattle.theory.proofs.Sums.{sum-same}
 use Rattle.theory.proofs.Tests.{by-test}
-use Rattle.numbers.proofs.Numbers.{pow-small, pow-some}
-use Rattle.numbers.specs.Numbers.{bit}
-use Rattle.owners.specs.Owners.{market, single, number}
-use Rattle.owners.specs.Prices.{plain, Priced}
-use Rattle.owners.proofs.Bits.{number-bit, number-below, plain-seated}
+use Rattle.theory.proofs.Lists.{most-same}
+use Rattle.owners.specs.Prices.{entry, seats, payoff, best, demandSet}
 use Rattle.owners.proofs.Prices.{keen-wants}
-use Rattle.owners.specs.Singles.{worth}
-use Rattle.demand.specs.Demands.{quoted, demandSet}
+use Rattle.owners.proofs.Sales.{priced}
+use Rattle.offers.specs.Offers as offers
+use Rattle.offers.specs.Offers.{Offer, Bids, worthOf, priceAt}
+use Rattle.offers.specs.Claims.{Regular}
+use Rattle.demand.specs.Demands.{quoted}
 
-sum-number : (k s : ℕ) (t : ℕ → Bool) → sum k s (λ j. when (t j) (2 ^ j)) ≡ 2 ^ s * number k s t
-unfolding number
-sum-number zero s t = omega arith
-sum-number (suc k) s t =
-    by-test (t s)
-    (λ e. rw e (omega (arith, rw pow-succ' at (sum-number k (suc s) t))))
-    (λ e. rw e (omega (arith, rw pow-succ' at (sum-number k (suc s) t))))
+module _ (O : Offer) (i : ℕ) (r : Bids O i) where
+  pub entry-is : (t : List ℕ) (s : ℕ) → entry t i s ≡ priceAt O t i s
+  entry-is t s =
+      by-test (eqb (O .low) 0) (λ e. rw e refl)
+      (λ e. rw (e, ne-eqb i 0 (λ z. eqb-false (O .low) 0 e (omega arith))) refl)
 
-module _ (n : ℕ) (q : Quote) (i : ℕ) where
-  demand-number : demandSet n q i ≡ number (2 ^ n) 0 (q .wants i)
-  demand-number = sum-number (2 ^ n) 0 (q .wants i) ∙ one-mul (number (2 ^ n) 0 (q .wants i))
+  module _ (ps : List ℕ) where
+    payoff-is : (s : ℕ) → payoff (seats 0 6) (entry (O .worths)) ps i s ≡ payoff (offers.seats O) (worthOf O) ps i s
+    payoff-is s = ap₂ (λ x p. x + 65535 - p) (entry-is (O .worths) s) (entry-is ps s)
 
-  pub demand-bit : (s : ℕ) → s < 2 ^ n → bit s (demandSet n q i) ≡ q .wants i s
-  demand-bit s h = ap (bit s) demand-number ∙ number-bit (2 ^ n) 0 (q .wants i) s h ∙ ap (q .wants i) (zero-add s)
+    best-is : best (seats 0 6) (O .bundles) (entry (O .worths)) ps i ≡ offers.best O ps i
+    best-is = most-same _ _ (upTo (O .bundles) 0) (λ s m. payoff-is s)
 
-  pub demand-below : demandSet n q i < 2 ^ (2 ^ n)
-  demand-below = omega (arith, demand-number, number-below (2 ^ n) 0 (q .wants i))
+    pub wants-is : (s : ℕ) → quoted (O .bundles) (O .worths) ps .wants i s ≡ offers.quote O ps .wants i s
+    wants-is s = ap₂ eqb (payoff-is s) best-is
 
--- keen is who does not demand the empty bundle
-pub keen-empty : (n : ℕ) (ws ps : List ℕ) (i : ℕ) → n ≤ 4 → Among 6 1 i → quoted n ws ps .keen i ≡ not (quoted n ws ps .wants i 0)
-keen-empty n ws ps i few r = keen-wants priced ps i r
-  where
-    priced : Priced (market 6 single) (plain 6) 6 (2 ^ n) 0 (worth ws)
-    priced = record { seated = plain-seated 6 6 (omega arith) (omega arith); small = pow-small n few; topped = pow-some n; free = λ i r. refl }
+    pub keen-is : quoted (O .bundles) (O .worths) ps .keen i ≡ offers.isKeen O ps i
+    keen-is = ap (ltb 65535) best-is
+
+    pub demand-set-is : demandSet (O .bundles) (quoted (O .bundles) (O .worths) ps) i ≡ offers.demandSet O ps i
+    demand-set-is = sum-same (O .bundles) 0 _ _ (λ s q. ap (λ t. when t (2 ^ s)) (wants-is s))
+
+    pub keen-empty : Regular O → offers.isKeen O ps i ≡ not (offers.quote O ps .wants i 0)
+    keen-empty regular =
+        keen-wants
+        (priced (offers.theAuction O) (offers.seats O) (O .bundles) (offers.bits O) (O .lists) (regular .hall)
+        (worthOf O) (regular .worths)) ps i r

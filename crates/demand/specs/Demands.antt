@@ -1,16 +1,14 @@
--- Demand at any prices. Offers `quoted`, the answers of bidders with these worths, and `demandSet`, a demand set as one number. Lists have sixteen numbers to
--- a buyer. How many buyers there are plays no part: `plain 6` seats each of them as `plain m` does.
+-- Demand at any prices, by tables of sixteen numbers to a bidder. Offers `quoted`, the answers of bidders with these
+-- worths, and `Covers`, tables that have a bidder's row. Who else bids plays no part.
 use mathlib.Core.List.{List}
-use Prim.Native.Nat.{ℕ, _^_}
-use Rattle.theory.specs.Sums.{when, sum}
+use Prim.Native.Nat.{ℕ, _+_, _*_, _≤_}
+use lib.ListN.{length}
 use Rattle.theory.specs.Auction.{Quote}
-use Rattle.owners.specs.Prices.{plain, quote}
-use Rattle.owners.specs.Singles.{worth}
+use Rattle.owners.specs.Prices.{row, entry, seats, quote}
 
--- for the bundles of n lots
+-- for bundles below `all`
 abbrev pub quoted : ℕ → List ℕ → List ℕ → Quote
-quoted n ws ps = quote (plain 6) (2 ^ n) (worth ws) ps
+quoted all ws ps = quote (seats 0 6) all (entry ws) ps
 
--- rule 4.2: the demand set as one number
-abbrev pub demandSet : ℕ → Quote → ℕ → ℕ
-demandSet n q i = sum (2 ^ n) 0 (λ s. when (q .wants i s) (2 ^ s))
+abbrev pub Covers : ℕ → List ℕ → List ℕ → Type 0
+Covers i ws ps = (i ≤ 6) × (16 * row i + 16 ≤ length ws) × (16 * row i + 16 ≤ length ps)

@@ -1,4 +1,4 @@
--- What meets the conditions of theorems (`witnesses`), by computing. Assumes nothing.
+-- What meets the conditions of theorems (`witnesses`), by computing.
 use mathlib.Core.Path.{_≡_, refl}
 use mathlib.Core.Logic.{_≢_}
 use mathlib.Core.Bool.{true}
@@ -9,7 +9,7 @@ use lib.ListN.{getD, replicate, length-replicate, getD-replicate, List·getD-eq-
 use Rattle.theory.specs.Sums.{Among}
 use Rattle.sheet.specs.Sheets.{worthsIn}
 use Rattle.owners.specs.Owners.{member}
-use Rattle.sale.specs.Words.{worthOf}
+use Rattle.offers.specs.Offers.{lotsOf, worthOf}
 use Rattle.demands.specs.Witnesses.{example, other, zeros, unread, Witnesses}
 
 highest : (k : ℕ) → getD (replicate 96 65535) k 0 ≤ 65535
@@ -35,7 +35,7 @@ agree (suc (suc zero)) (suc (suc (suc zero))) r some h = refl
 agree (suc (suc zero)) (suc (suc (suc (suc s)))) r some h = absurd (omega arith)
 agree (suc (suc (suc i))) s r some h = absurd (omega arith)
 
-others : (k s : ℕ) → Among 2 1 k → k ≢ 1 → s < 4 → worthOf example k s ≡ worthOf other k s
+others : (k s : ℕ) → Among 2 1 k → k ≢ 1 → s < 4 → worthOf (lotsOf example) k s ≡ worthOf (lotsOf other) k s
 unfolding worthsIn
 others zero s r not h = absurd (omega arith)
 others (suc zero) s r not h = absurd (not refl)

@@ -10,8 +10,8 @@ use Rattle.theory.specs.Auction.{Beneath}
 use Rattle.fields.specs.Fields.{linesOf}
 use Rattle.owners.specs.Owners.{member}
 use Rattle.sheet.specs.Sheets.{Sheet, sheetOf}
-use Rattle.sale.specs.Words.{worthOf, market, undersupplied}
-use Rattle.sale.specs.Claims.{Prices, Agree}
+use Rattle.offers.specs.Offers.{lotsOf, worthOf, market, undersupplied}
+use Rattle.offers.specs.Claims.{Prices, Agree}
 use Rattle.demands.specs.Claims.{AlikeBut}
 
 -- the example of rule 6.5, and one in which buyer 1 says 1, 1 and 2
@@ -36,12 +36,12 @@ pub record Witnesses : Type 0 where
   -- the highest prices that can come from outside
   pub highest : Prices (replicate 96 65535)
   -- prices that agree where they are read
-  pub agree : Agree example zeros unread
+  pub agree : Agree (lotsOf example) zeros unread
   pub elsewhere : (getD unread 0 0 ≡ 7) × (getD unread 4 0 ≡ 7) × (getD unread 40 0 ≡ 7)
   -- sheets that differ in buyer 1's worths alone
   pub alike : AlikeBut 1 example other
-  pub differ : worthOf example 1 1 ≢ worthOf other 1 1
+  pub differ : worthOf (lotsOf example) 1 1 ≢ worthOf (lotsOf other) 1 1
   -- a proper subset: buyer 1 of buyers 1 and 2
-  pub beneath : Beneath (market example) (member 1) (member 3)
+  pub beneath : Beneath (market (lotsOf example)) (member 1) (member 3)
   -- buyer 1 is asked 9 for a lot that it wants at 5 at most: the revenue is 9, so no allocation fits
-  pub empty-set : undersupplied oneLot (set zeros 1 9) 0 ≡ true
+  pub empty-set : undersupplied (lotsOf oneLot) (set zeros 1 9) 0 ≡ true

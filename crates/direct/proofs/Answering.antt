@@ -1,50 +1,51 @@
--- The ways out of the direct way: a sheet that is refused, and one that is reckoned. Assumes nothing.
-use mathlib.Core.Path.{_≡_, refl, ap, _∙_}
-use mathlib.Core.Bool.{true, false}
+-- The ways out of the direct way: a sheet that is refused, and one that is reckoned.
+use mathlib.Core.Path.{_≡_, refl, sym, ap, subst, _∙_}
 use mathlib.Core.List.{List}
-use Prim.Native.Nat.{ℕ, _≤_}
+use Prim.Native.Nat.{ℕ, _^_, _≤_}
 use native.Mathlib.Omega.{arith}
-use borrow.Author.Tests.{eq-eqb, ne-eqb}
-use Rattle.sheet.specs.declared.Fault.{Fault}
+use lib.ListN.{length}
 use Rattle.sheet.specs.declared.Worths.{Worths}
-use Rattle.sheet.specs.Sheets.{Sheet, asSheet, sheetOf}
-use Rattle.sheet.specs.Questions.{fault, accepts, sheetFault}
+use Rattle.sheet.specs.Sheets.{Sheet}
+use Rattle.sheet.specs.Questions.{fault}
 use Rattle.sheet.specs.Answers.{worthsRead}
 use Rattle.sheet.proofs.Theorems.{accepted-shape}
-use Rattle.reading.proofs.Reading.{Accepted, read-refused, read-accepted}
-use Rattle.totals.specs.Walks.{four}
-use Rattle.totals.specs.Words.{greatestWithout}
-use Rattle.totals.specs.Seats.{seats}
+use Rattle.reading.proofs.Reading.{read-refused}
+use Rattle.reading.proofs.Told.{sheet-no, sheet-none, sheet-yes, sheet-read}
+use Rattle.offers.specs.Offers.{Offer, lotsAmong, lotsOf}
+use Rattle.offers.specs.Claims.{Regular}
+use Rattle.offers.proofs.Lots.{regular}
+use Rattle.lists.specs.Words.{lotWords, Lent}
+use Rattle.lists.proofs.Packed.{lots-lent}
 use Rattle.direct.specs.declared.Direct.{Direct}
-use Rattle.vickrey.specs.Reckoning.{directOwners, directPayment}
 use Rattle.direct.specs.Answers.{refusedDirect, reckoned, directAnswer}
 
 module _ (b : List ℕ) (r : Worths) (e : r ≡ worthsRead b) where
-  pub direct-refused : (r .number ≡ 0 → ⊥) → (d : Direct) → d ≡ refusedDirect (fault (r .number) (r .place)) → d ≡ directAnswer b
+  pub direct-refused : (r .number ≡ 0 → ⊥) → (d : Direct) → d ≡ refusedDirect (fault (r .number) (r .place)) →
+      d ≡ directAnswer b
   unfolding directAnswer
-  direct-refused h d q =
-      let same = read-refused b r e in
-      let no-yes : accepts (sheetFault b) ≡ false = ne-eqb (sheetFault b .number) 0 (λ z. h (ap (λ (f : Fault). f .number) same ∙ z)) in
-      rw no-yes (q ∙ ap refusedDirect same)
+  direct-refused h d q = rw (sheet-no b r e h) (q ∙ ap refusedDirect (read-refused b r e))
 
   module _ (z : r .number ≡ 0) where
-    told : Accepted b r
-    told = read-accepted b r e z
+    abbrev O : Offer
+    O = lotsAmong (r .buyers) (r .lots) (r .worths)
 
-    abbrev w : Sheet
-    w = asSheet (r .buyers) (r .lots) (r .worths)
-
-    as-read : w ≡ sheetOf b
-    as-read = rw (told .buyers, told .lots, told .worths) refl
-
-    pub direct-asks : (r .buyers ≤ 6) × (r .lots ≤ 4)
+    pub direct-asks : (r .buyers ≤ 6) × (r .lots ≤ 4) × (96 ≤ length (r .worths))
     direct-asks =
-        let s = accepted-shape b (told .none) in
-        (omega (arith, s .few-buyers, told .buyers), omega (arith, s .few-lots, told .lots))
+        let s = accepted-shape b (sheet-none b r e z) in
+        let same = sheet-read b r e z in (
+          omega (arith, s .few-buyers, ap (λ (w : Sheet). w .buyers) same),
+          omega (arith, s .few-lots, ap (λ (w : Sheet). w .lots) same),
+          omega (arith, s .long, ap (λ (w : Sheet). length (w .worths)) same),
+        )
 
-    pub direct-reckoned : (total : ℕ) (owners payments : List ℕ) → total ≡ greatestWithout w 0 → owners ≡ four (directOwners w) → payments ≡ seats (r .buyers) (directPayment w) →
-        _≡_ {A = Direct} (record { number = 0; place = 0; total = total; owners = owners; payments = payments }) (directAnswer b)
-    unfolding directAnswer reckoned
-    direct-reckoned total owners payments et eo ep =
-        let all-yes : accepts (sheetFault b) ≡ true = eq-eqb (sheetFault b .number) 0 (told .none) in
-        rw (all-yes, et, eo, ep) (ap reckoned as-read)
+    -- an answer for whatever offer the words are of
+    pub direct-reckoned : (l : List ℕ) → l ≡ lotWords (r .buyers) (r .lots) → (d : Direct) →
+        ((O : Offer) (all : ℕ) → Lent O l (r .worths) 1 (r .buyers) all → d ≡ reckoned O) → d ≡ directAnswer b
+    unfolding directAnswer
+    direct-reckoned l words d is =
+        let same = sheet-read b r e z in
+        let (few, short, _) = direct-asks in
+        let good : Regular O = subst (λ w. Regular (lotsOf w)) (sym same) (regular b (sheet-none b r e z)) in
+        rw (sheet-yes b r e z)
+        (is O (2 ^ r .lots) (lots-lent (r .buyers) (r .lots) l (r .worths) (2 ^ r .lots) few short good words refl)
+        ∙ ap (λ w. reckoned (lotsOf w)) same)

@@ -1,3 +1,4 @@
--- The ways out of the direct way (Answering), and what its answer says (Opening).
+-- The words of the direct way (Reckoning), its ways out (Answering), and what its answers say (Opening).
+pub mod Reckoning
 pub mod Answering
 pub mod Opening

@@ -1,11 +1,11 @@
 -- The direct way's number and place (`direct-number`, `direct-place`), where it accepts (`direct-open`), and where it
--- refuses (`direct-closed`). Assumes nothing.
+-- refuses (`direct-closed`).
 use mathlib.Core.Path.{_≡_, refl, sym, ap, _∙_}
 use mathlib.Core.Logic.{_≢_}
 use mathlib.Core.List.{List}
 use Prim.Native.Nat.{ℕ}
 use native.Mathlib.Omega.{arith}
-use Rattle.sheet.specs.Sheets.{sheetOf}
+use Rattle.offers.specs.Offers.{offerOf}
 use Rattle.sheet.specs.Questions.{fault, sheetFault}
 use Rattle.sheet.proofs.Theorems.{place-zero}
 use Rattle.sheet.proofs.Forms.{Form, told, told-number, told-place, told-yes, told-again}
@@ -18,7 +18,7 @@ directForm b =
     record {
       number = λ d. d .number;
       place = λ d. d .place;
-      yes = reckoned (sheetOf b);
+      yes = reckoned (offerOf b);
       no = refusedDirect;
       number-yes = refl;
       place-yes = refl;
@@ -42,7 +42,7 @@ module _ (b : List ℕ) (d : Direct) (e : d ≡ directAnswer b) where
       ap (λ (s : Direct). s .place) direct-told
       ∙ told-place (directForm b) (sheetFault b) (λ z. place-zero b (omega arith))
 
-  pub direct-open : d .number ≡ 0 → (sheetFault b .number ≡ 0) × (d ≡ reckoned (sheetOf b))
+  pub direct-open : d .number ≡ 0 → (sheetFault b .number ≡ 0) × (d ≡ reckoned (offerOf b))
   unfolding directForm
   direct-open z = (
     sym direct-number ∙ z,

@@ -1,7 +1,13 @@
-// The direct way of reckoning the sale of a lot sheet.
+// The direct way of reckoning the sale of a lot sheet (Vickrey, Clarke and Groves), from the worths alone: the first
+// owner list of greatest total, and what each buyer pays.
 ghost use mathlib.Core.Path.{_≡_};
+ghost use Prim.Native.Nat.{ℕ, _*_, _≤_};
+ghost use lib.ListN.{length};
+ghost use Rattle.owners.specs.Prices.{rows};
 ghost use Rattle.sheet.specs.Questions.{fault};
-ghost use Rattle.direct.specs.Answers.{refusedDirect, directAnswer};
+ghost use Rattle.offers.specs.Offers.{Offer};
+ghost use Rattle.lists.specs.Words.{Lent};
+ghost use Rattle.direct.specs.Answers.{refusedDirect, reckoned, directAnswer};
 
 // A refusal, or the greatest total worth, its first owner list, and the payments.
 #[repr(C)]
@@ -25,6 +31,25 @@ fn refused_direct(number: u8, place: u32) -> Direct
     }
 }
 
+// The direct way by the words of all allocations.
+fn reckon(list: &[u64], worths: &[u16], low: usize, buyers: usize) -> Direct
+    requires { ⌜ (low ≤ 1) × (buyers ≤ 6) × (16 * rows low ≤ length (now worths)) ⌝ }
+    ensures { λ r. ⌜ ((O : Offer) → (all : ℕ) → Lent O (now (list .entry)) (now (worths .entry)) low buyers all →
+        r ≡ reckoned O) ⌝ }
+{
+    let greatest = totals::greatest_totals(list, worths, low, buyers);
+    let word = totals::first_of_total(list, worths, low, buyers, greatest[0]);
+    let owners = lists::owners_of(word);
+    let due = totals::payments(greatest, worths, buyers, word);
+    Direct {
+        number: 0,
+        place: 0,
+        total: greatest[0],
+        owners,
+        payments: due,
+    }
+}
+
 // Reckons the sale of a sheet directly. There are no prices and no record.
 pub fn direct_way(sheet: &[u8]) -> Direct
     ensures { λ r. ⌜ r ≡ directAnswer (now (sheet .entry)) ⌝ }
@@ -36,14 +61,7 @@ pub fn direct_way(sheet: &[u8]) -> Direct
     let worths = read.worths;
     let m = read.buyers as usize;
     let n = read.lots as usize;
-    let total = totals::greatest_without(&worths, m, n, 0);
-    let owners = vickrey::owners_of(&worths, m, n, total);
-    let due = vickrey::payments(&worths, m, n, total, owners);
-    Direct {
-        number: 0,
-        place: 0,
-        total,
-        owners,
-        payments: due,
-    }
+    let mut words = [0u64; 2401];
+    let count = lists::list_lots(m, n, &mut words);
+    reckon(&words[..count], &worths, 1, m)
 }

@@ -1,21 +1,22 @@
 -- Each set of bidders has a number, the sum of 2 ^ j over its bidders' seats j, and a proper subset has a lower one (`seats-ranked`). Offers the laws of
--- `number` (`number-bit`, `number-below`, and `number-down` for loops), and that m buyers sit (`plain-seated`). Assumes nothing.
+-- `number` (`number-bit`, `number-below`, and `number-down` for loops), of demand sets (`demand-bit`, `demand-below`),
+-- and that m buyers sit (`plain-seated`).
 use mathlib.Core.Path.{_≡_, sym, ap, _∙_}
 use mathlib.Core.Bool.{Bool, true, false, _&&_}
 use Prim.Native.Nat.{ℕ, zero, suc, _+_, _-_, _*_, _/_, _%_, _^_, _≤_, _<_}
-use native.Mathlib.Nat.{zero-add}
+use native.Mathlib.Nat.{zero-add, one-mul, pow-succ'}
 use native.Mathlib.Omega.{arith}
 use native.Mathlib.Decide.{ℕ-discrete}
 use lib.Pow.{pow-mono}
 use borrow.Author.Tests.{eq-eqb, ne-eqb, eqb-true, lt-ltb, ltb-true}
-use Rattle.theory.specs.Sums.{when, Among}
+use Rattle.theory.specs.Sums.{when, sum, Among}
 use Rattle.theory.specs.Markets.{Market}
-use Rattle.theory.specs.Auction.{Numbered, Ranked}
+use Rattle.theory.specs.Auction.{Quote, Numbered, Ranked}
 use Rattle.theory.proofs.Tests.{by-test, fails, itself, and-means}
 use Rattle.numbers.proofs.Subsets.{bit-half}
 use Rattle.numbers.specs.Numbers.{bit}
 use Rattle.owners.specs.Owners.{number}
-use Rattle.owners.specs.Prices.{Seats, Seated, plain, seatMember}
+use Rattle.owners.specs.Prices.{Seats, Seated, plain, seatMember, demandSet}
 
 pub number-below : (k s : ℕ) (t : ℕ → Bool) → number k s t < 2 ^ k
 unfolding number
@@ -95,3 +96,23 @@ plain-seated m bits more few =
       sits = λ i r. (omega arith, lt-ltb (i - 1) m (omega arith), omega arith);
       seats = λ j p. (omega (arith, ltb-true j m p), omega arith);
     }
+
+-- a sum of powers of two is the number that has them as its bits
+sum-number : (k s : ℕ) (t : ℕ → Bool) → sum k s (λ j. when (t j) (2 ^ j)) ≡ 2 ^ s * number k s t
+unfolding number
+sum-number zero s t = omega arith
+sum-number (suc k) s t =
+    by-test (t s)
+    (λ e. rw e (omega (arith, rw pow-succ' at (sum-number k (suc s) t))))
+    (λ e. rw e (omega (arith, rw pow-succ' at (sum-number k (suc s) t))))
+
+-- a demand set's bits are the bundles that are demanded
+module _ (all : ℕ) (q : Quote) (i : ℕ) where
+  demand-number : demandSet all q i ≡ number all 0 (q .wants i)
+  demand-number = sum-number all 0 (q .wants i) ∙ one-mul (number all 0 (q .wants i))
+
+  pub demand-bit : (s : ℕ) → s < all → bit s (demandSet all q i) ≡ q .wants i s
+  demand-bit s h = ap (bit s) demand-number ∙ number-bit all 0 (q .wants i) s h ∙ ap (q .wants i) (zero-add s)
+
+  pub demand-below : demandSet all q i < 2 ^ all
+  demand-below = omega (arith, demand-number, number-below all 0 (q .wants i))

@@ -4,10 +4,10 @@
 use mathlib.Core.Path.{_≡_}
 use mathlib.Core.Bool.{Bool, true, _&&_, _||_}
 use mathlib.Core.List.{List}
-use Prim.Native.Nat.{ℕ, suc, _+_, _-_, _*_, _/_, _≤_, _<_}
+use Prim.Native.Nat.{ℕ, suc, _+_, _-_, _*_, _/_, _^_, _≤_, _<_}
 use lib.Dec.{eqb, ltb, leb}
 use lib.ListN.{getD, replicate}
-use Rattle.theory.specs.Sums.{pick, when, Among}
+use Rattle.theory.specs.Sums.{pick, when, sum, Among}
 use Rattle.theory.specs.Lists.{most, tabulate, upTo}
 use Rattle.theory.specs.Markets.{Market, Table, Bidder, asks}
 use Rattle.theory.specs.Auction.{Quote}
@@ -100,6 +100,10 @@ module _ (S : Seats) where
 
   abbrev pub raised : ℕ → Table → (ℕ → Bool) → List ℕ → List ℕ
   raised all v set ps = tabulate (16 * S .rows) 0 (λ k. raisedAt all v set ps k (k / 16) (k - 16 * (k / 16)))
+
+-- rule 4.2: a demand set, of bundles below `all`, as one number
+abbrev pub demandSet : ℕ → Quote → ℕ → ℕ
+demandSet all q i = sum all 0 (λ s. when (q .wants i s) (2 ^ s))
 
 -- the list holds the prices of the payoffs π: worths v, bundles below `all`, of which `top` is worth most
 pub record Holds {A : Type 0} (M : Market A) (S : Seats) (all top : ℕ) (v : Table) (ps : List ℕ) (π : ℕ → ℕ) : Type 0 where

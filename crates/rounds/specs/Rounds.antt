@@ -5,17 +5,23 @@ use mathlib.Core.Path.{_≡_}
 use mathlib.Core.List.{List}
 use Prim.Native.Nat.{ℕ, _+_, _-_, _^_, _≤_}
 use lib.Dec.{eqb}
-use lib.ListN.{length, set}
+use lib.ListN.{length, getD, set, replicate}
 use Rattle.theory.specs.Sums.{pick}
 use Rattle.theory.specs.Coalitions.{lowestBy}
 use Rattle.numbers.specs.Numbers.{Is}
 use Rattle.owners.specs.Owners.{member}
 use Rattle.owners.specs.Prices.{plain}
-use Rattle.owners.specs.Quick.{left, raisedBy, roster}
-use Rattle.owners.specs.Singles.{worth, AtMost, Topped, saleSets, salePrices, saleChoice}
+use Rattle.owners.specs.Quick.{left, raisedBy, roster, valueOf}
+use Rattle.owners.specs.Singles.{worth, AtMost, Topped}
+use Rattle.offers.specs.Offers.{Offer, lowest}
+use Rattle.offers.specs.Rounds.{startPrices, setsFrom, pricesFrom}
 use Rattle.theory.specs.Lists.{over}
 use Rattle.rounds.specs.declared.State.{State}
 use Rattle.supply.specs.Supply.{shift, at, owed, Subsets, Keeps, SmallGains, SmallRevenues}
+
+-- the prices that the code starts from
+unfoldable pub zeros : List ℕ
+zeros = replicate 96 0
 
 -- 1 more than the number of the lowest undersupplied set at the prices ps, by the values; `top` is the bundle of all lots
 unfoldable pub lowestAt : ℕ → ℕ → List ℕ → List ℕ → List ℕ → ℕ
@@ -83,6 +89,11 @@ abbrev pub TurnAt : ℕ → ℕ → List ℕ → State → Tables → List ℕ �
 TurnAt m all ws s k o o′ r k′ = (values : List ℕ) → KeptAt m (all - 1) ws values (s .prices) k →
     RoundAt m all ws values s o o′ r × KeptAt m (all - 1) ws values (r .prices) k′
 
+-- the value of each set of m buyers, for n lots
+pub record Valued (m n : ℕ) (ws values : List ℕ) : Type 0 where
+  pub is : (k : ℕ) → getD values k 0 ≡ valueOf m n (worth ws) k
+  pub small : AtMost 59994 values
+
 -- what at most f rounds of a sale of n lots to m buyers ask of the worths and the record
 pub record Opens (m n : ℕ) (ws : List ℕ) (f : ℕ) (o : List ℕ) : Type 0 where
   pub few-buyers : m ≤ 6
@@ -94,8 +105,8 @@ pub record Opens (m n : ℕ) (ws : List ℕ) (f : ℕ) (o : List ℕ) : Type 0 w
   pub short : f ≤ 60000
 
 -- and what they answer, with the record before and after them
-pub record Sold (m n : ℕ) (ws : List ℕ) (f : ℕ) (o o′ : List ℕ) (r : State) : Type 0 where
-  pub prices : r .prices ≡ salePrices m n ws f
-  pub rounds : r .rounds ≡ length (saleSets m n ws f)
-  pub settled : r .settled ≡ eqb (saleChoice m n ws (salePrices m n ws f)) 0
-  pub bytes : o′ ≡ over (saleSets m n ws f) o
+pub record Sold (O : Offer) (f : ℕ) (o o′ : List ℕ) (r : State) : Type 0 where
+  pub prices : r .prices ≡ pricesFrom O (startPrices O) f
+  pub rounds : r .rounds ≡ length (setsFrom O (startPrices O) f)
+  pub settled : r .settled ≡ eqb (lowest O (pricesFrom O (startPrices O) f)) 0
+  pub bytes : o′ ≡ over (setsFrom O (startPrices O) f) o

@@ -4,8 +4,10 @@ ghost use mathlib.Core.Path.{_≡_};
 ghost use Prim.Native.Nat.{_^_, _≤_, _<_};
 ghost use lib.ListN.{length, set};
 ghost use Rattle.numbers.specs.Numbers.{Is};
-ghost use Rattle.owners.specs.Singles.{AtMost, startPrices};
-ghost use Rattle.rounds.specs.Rounds.{tables, Lowest, Ready, Small, TurnAt, Opens, Sold};
+ghost use Rattle.owners.specs.Singles.{AtMost};
+ghost use Rattle.offers.specs.Offers.{lotsAmong};
+ghost use Rattle.lists.specs.Words.{lotWords};
+ghost use Rattle.rounds.specs.Rounds.{zeros, tables, Lowest, Ready, Small, TurnAt, Valued, Opens, Sold};
 ghost use Rattle.supply.specs.Supply.{Subsets};
 use numbers::power;
 
@@ -86,7 +88,7 @@ fn round(
 
 // The state before the first round: ninety-six zeros (rule 1.6).
 fn start() -> State
-    ensures { λ r. ⌜ (r .prices ≡ startPrices) × (r .rounds ≡ 0) ⌝ }
+    ensures { λ r. ⌜ (r .prices ≡ zeros) × (r .rounds ≡ 0) ⌝ }
 {
     State {
         prices: [0; 96],
@@ -95,24 +97,33 @@ fn start() -> State
     }
 }
 
+// The value of each set of buyers, by the words of all allocations.
+fn values(list: &[u64], worths: &[u16; 96], buyers: usize, lots: usize) -> [u32; 64]
+    requires { ⌜ (buyers ≤ 6) × (lots ≤ 4) × AtMost 9999 (now worths) × (now list ≡ lotWords buyers lots) ⌝ }
+    ensures { λ r. ⌜ Valued buyers lots (now (worths .entry)) r ⌝ }
+{
+    totals::values(list, worths, 1, buyers)
+}
+
 // At most `limit` rounds of a sale, each of which writes its set's number to the record's next byte.
 pub fn run_rounds(
+    list: &[u64],
     worths: &[u16; 96],
     buyers: usize,
     lots: usize,
     log: &mut [u8],
     limit: u32,
 ) -> State
-    requires { ⌜ Opens buyers lots (now worths) limit (now log) ⌝ }
-    ensures { λ r. ⌜ Sold buyers lots (now (worths .entry)) limit (now (log .entry)) (now (log .exit)) r ⌝ }
+    requires { ⌜ Opens buyers lots (now worths) limit (now log) × (now list ≡ lotWords buyers lots) ⌝ }
+    ensures { λ r. ⌜ Sold (lotsAmong buyers lots (now (worths .entry))) limit (now (log .entry)) (now (log .exit)) r ⌝ }
 {
-    let values = coalitions::values(worths, buyers, lots);
+    let values = values(list, worths, buyers, lots);
     let subsets = supply::subsets();
     let all = power(lots);
     let sets = supply::sets_of(buyers);
     let mut s = start();
-    let zeros = s.prices;
-    let mut payoffs = raising::payoffs(worths, &zeros, buyers, all - 1);
+    let none = s.prices;
+    let mut payoffs = raising::payoffs(worths, &none, buyers, all - 1);
     let mut gains = supply::gains(&values, &payoffs, buyers, sets);
     let mut revenues = supply::revenues(&gains, buyers, sets);
     while s.rounds < limit {

@@ -1,10 +1,3 @@
--- Laws and theorems of a sheet's sale.
-pub mod Instance
-pub mod Lists
-pub mod Theorems
-pub mod Demanding
-pub mod Supplying
-pub mod Present
+-- Laws of the answers (Opening), and all that is claimed (Claimed).
 pub mod Opening
-pub mod Kept
 pub mod Claimed

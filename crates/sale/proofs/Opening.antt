@@ -15,8 +15,8 @@ use Rattle.sheet.specs.Questions.{fault, between, sheetFault}
 use Rattle.sheet.proofs.Forms.{Form, told, told-number, told-place, told-yes, told-again, asked-none, asked-place}
 use Rattle.sale.specs.declared.Sale.{Sale}
 use Rattle.sale.specs.declared.Demand.{Demand}
-use Rattle.sale.specs.Words.{demandSet, isKeen}
-use Rattle.sale.specs.Rounds.{roundLimit, saleSets}
+use Rattle.offers.specs.Offers.{offerOf, demandSet, isKeen}
+use Rattle.offers.specs.Rounds.{roundLimit, saleSets}
 use Rattle.sale.specs.Answers.{saleFault, demandFault, refusedDemand, demandAnswer, refusedSale, settledSale}
 use Rattle.sale.specs.Answers.{saleAnswer, saleRecord, SaleSays}
 
@@ -26,7 +26,7 @@ saleForm b =
     record {
       number = λ r. r .number;
       place = λ r. r .place;
-      yes = settledSale (sheetOf b);
+      yes = settledSale (offerOf b);
       no = refusedSale;
       number-yes = refl;
       place-yes = refl;
@@ -40,7 +40,7 @@ demandForm b i ps =
     record {
       number = λ d. d .number;
       place = λ d. d .place;
-      yes = record { number = 0; place = 0; bundles = demandSet (sheetOf b) ps i; keen = isKeen (sheetOf b) ps i };
+      yes = record { number = 0; place = 0; bundles = demandSet (offerOf b) ps i; keen = isKeen (offerOf b) ps i };
       no = refusedDemand;
       number-yes = refl;
       place-yes = refl;
@@ -51,9 +51,9 @@ demandForm b i ps =
 -- a sale that accepts
 pub record Open (b o o′ : List ℕ) (r : Sale) : Type 0 where
   pub accepted : sheetFault b .number ≡ 0
-  pub room : roundLimit (sheetOf b) ≤ length o
-  pub answer : r ≡ settledSale (sheetOf b)
-  pub bytes : o′ ≡ over (saleSets (sheetOf b)) o
+  pub room : roundLimit (offerOf b) ≤ length o
+  pub answer : r ≡ settledSale (offerOf b)
+  pub bytes : o′ ≡ over (saleSets (offerOf b)) o
 
 module _ (b o o′ : List ℕ) (r : Sale) (says : SaleSays b o o′ r) where
   pub sale-told : r ≡ told (saleForm b) (saleFault b (length o))
@@ -69,16 +69,16 @@ module _ (b o o′ : List ℕ) (r : Sale) (says : SaleSays b o o′ r) where
   sale-place =
       ap (λ (s : Sale). s .place) sale-told
       ∙ told-place (saleForm b) (saleFault b (length o))
-      (asked-place 9 (leb (roundLimit (sheetOf b)) (length o)) (sheetFault b) (omega arith))
+      (asked-place 9 (leb (roundLimit (offerOf b)) (length o)) (sheetFault b) (omega arith))
 
   pub sale-open : r .number ≡ 0 → Open b o o′ r
   unfolding saleForm saleRecord
   sale-open z =
       let none = sym sale-number ∙ z in
-      let (accepted, room) = asked-none 9 (leb (roundLimit (sheetOf b)) (length o)) (sheetFault b) (omega arith) none in
+      let (accepted, room) = asked-none 9 (leb (roundLimit (offerOf b)) (length o)) (sheetFault b) (omega arith) none in
       record {
         accepted = accepted;
-        room = leb-true (roundLimit (sheetOf b)) (length o) room;
+        room = leb-true (roundLimit (offerOf b)) (length o) room;
         answer = sale-told ∙ told-yes (saleForm b) (saleFault b (length o)) (told-number (saleForm b) (saleFault b (length o)) ∙ none);
         bytes = says .bytes ∙ rw (eq-eqb (saleFault b (length o) .number) 0 none) refl;
       }
@@ -111,7 +111,7 @@ module _ (b : List ℕ) (i : ℕ) (ps : List ℕ) where
       ∙ told-place (demandForm b i ps) (demandFault b i)
       (asked-place 10 (between (sheetOf b .buyers) i) (sheetFault b) (omega arith))
 
-  pub demand-open : d .number ≡ 0 → (d .bundles ≡ demandSet (sheetOf b) ps i) × (d .keen ≡ isKeen (sheetOf b) ps i)
+  pub demand-open : d .number ≡ 0 → (d .bundles ≡ demandSet (offerOf b) ps i) × (d .keen ≡ isKeen (offerOf b) ps i)
   unfolding demandForm
   demand-open z =
       let e = demand-told ∙ told-yes (demandForm b i ps) (demandFault b i)

@@ -3,13 +3,10 @@ ghost use mathlib.Core.Path.{_≡_};
 ghost use Prim.Native.Nat.{_≤_};
 ghost use Rattle.numbers.specs.Numbers.{Is};
 ghost use Rattle.owners.specs.Singles.{AtMost};
-ghost use Rattle.sheet.specs.Sheets.{asSheet};
 ghost use Rattle.sheet.specs.Questions.{fault};
-ghost use Rattle.sale.specs.Rounds.{roundLimit};
-ghost use Rattle.sale.specs.Claims.{Sales};
-ghost use Rattle.sale.specs.Answers.{refusedDemand, refusedSale, soldBy, OneAnswer};
-use closing::Closing;
-use rounds::State;
+ghost use Rattle.offers.specs.Offers.{lotsAmong};
+ghost use Rattle.offers.specs.Rounds.{roundLimit};
+ghost use Rattle.sale.specs.Answers.{refusedDemand, refusedSale, OneAnswer, Sales};
 
 // A refusal, or a buyer's demand set and whether it is keen.
 #[repr(C)]
@@ -64,37 +61,16 @@ pub fn refused_sale(number: u8, place: u32) -> Sale
 // Question 9's sum (rule 3.9).
 pub fn round_limit(worths: &[u16; 96], m: usize, n: usize) -> u32
     requires { ⌜ (m ≤ 6) × (1 ≤ n) × (n ≤ 4) × AtMost 9999 (now worths) ⌝ }
-    ensures { λ r. ⌜ Is (roundLimit (asSheet m n (now (worths .entry)))) r 59994 ⌝ }
+    ensures { λ r. ⌜ Is (roundLimit (lotsAmong m n (now (worths .entry)))) r 59994 ⌝ }
 {
     let top = numbers::power(n) - 1;
     let mut total: u32 = 0;
     let mut i: usize = 1;
     while i <= m {
-        total += demand::worth_of(worths, i, top);
+        total += tables::entry(worths, i, top);
         i += 1;
     }
     total
-}
-
-// A settled sale, of its rounds and its closing.
-pub fn settled(buyers: u8, lots: u8, s: State, c: Closing) -> Sale
-    ensures { λ r. ⌜ r ≡ soldBy buyers lots s c ⌝ }
-{
-    let prices = s.prices;
-    let owners = c.owners;
-    let discounts = c.discounts;
-    let payments = c.payments;
-    Sale {
-        number: 0,
-        place: 0,
-        buyers,
-        lots,
-        rounds: s.rounds,
-        prices,
-        owners,
-        discounts,
-        payments,
-    }
 }
 
 // Does nothing. Its contract has the theorems about sales, demand 2 among them, so that none can be dropped unseen.

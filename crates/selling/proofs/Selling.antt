@@ -1,90 +1,111 @@
--- The ways out of a sale: a sheet that is refused, a record that is too short, and the settled sale. Assumes nothing.
-use mathlib.Core.Path.{_≡_, refl, sym, ap, _∙_}
+-- The ways out of a sale: a sheet that is refused, a record that is too short, and the settled sale.
+use mathlib.Core.Path.{_≡_, refl, sym, ap, subst, _∙_}
 use mathlib.Core.Bool.{true, false}
 use mathlib.Core.List.{List}
-use Prim.Native.Nat.{ℕ, _≤_, _<_}
+use Prim.Native.Nat.{ℕ, _^_, _≤_, _<_}
 use native.Mathlib.Omega.{arith}
 use lib.Dec.{leb}
-use lib.ListN.{length, getD}
-use borrow.Author.Tests.{eq-eqb, ne-eqb, le-leb, lt-leb}
-use Rattle.owners.specs.Singles as singles
+use lib.ListN.{length}
+use borrow.Author.Tests.{le-leb, lt-leb}
+use Rattle.owners.specs.Singles.{AtMost, Topped}
+use Rattle.theory.specs.Lists.{over}
 use Rattle.closing.specs.declared.Closing.{Closing}
-use Rattle.closing.specs.Charges.{saleClosing}
+use Rattle.closing.specs.Closings.{saleClosing}
 use Rattle.rounds.specs.declared.State.{State}
 use Rattle.rounds.specs.Rounds.{Opens, Sold}
 use Rattle.sheet.specs.declared.Worths.{Worths}
-use Rattle.sheet.specs.Sheets.{asSheet, sheetOf}
-use Rattle.sheet.specs.Questions.{fault, accepts, sheetFault}
+use Rattle.sheet.specs.Sheets.{Sheet}
+use Rattle.sheet.specs.Questions.{fault}
 use Rattle.sheet.specs.Answers.{worthsRead}
-use Rattle.reading.proofs.Reading.{Accepted, read-refused, read-accepted}
+use Rattle.reading.proofs.Reading.{read-refused}
+use Rattle.reading.proofs.Told.{sheet-no, sheet-none, sheet-yes, sheet-read}
+use Rattle.offers.specs.Offers.{Offer, lotsAmong, lotsOf, offerOf}
+use Rattle.offers.specs.Rounds.{roundLimit, startPrices, setsFrom, saleSets, lastPrices}
+use Rattle.offers.specs.Claims.{Regular}
+use Rattle.offers.proofs.Lots.{lots-regular, shape, topped}
+use Rattle.lists.specs.Words.{lotWords, Lent}
+use Rattle.lists.proofs.Packed.{lots-lent}
 use Rattle.sale.specs.declared.Sale.{Sale}
-use Rattle.sale.specs.Rounds.{roundLimit, saleSets, lastPrices, ownersBy, discountFor, paymentFor}
-use Rattle.sale.specs.Answers.{refusedSale, settledSale, soldBy, saleAnswer, saleRecord, SaleSays}
-use Rattle.sale.proofs.Instance.{shape, worths}
-use Rattle.selling.proofs.Demanding.{fault-number}
+use Rattle.sale.specs.Answers.{refusedSale, settledSale, saleAnswer, saleRecord, SaleSays}
+use Rattle.selling.specs.Selling.{soldBy}
+
+-- what the rounds ask of a sheet
+abbrev Asked : Sheet → Type 0
+Asked w =
+    (w .buyers ≤ 6) × (1 ≤ w .lots) × (w .lots ≤ 4) × AtMost 9999 (w .worths)
+    × Topped (w .buyers) (w .lots) (w .worths)
+
+-- the rounds and the closing make up the settled sale
+pub sold-settled : (m n : ℕ) (ws l o o′ : List ℕ) (f all : ℕ) → Opens m n ws f o → l ≡ lotWords m n → all ≡ 2 ^ n →
+    f ≡ roundLimit (lotsAmong m n ws) → (s : State) → Sold (lotsAmong m n ws) f o o′ s →
+    (c : Closing) → ((O : Offer) → Lent O l ws 1 m all → c ≡ saleClosing O (s .prices)) →
+    (a : Sale) → a ≡ soldBy m n s c → (a ≡ settledSale (lotsAmong m n ws)) × (o′ ≡ over (saleSets (lotsAmong m n ws)) o)
+unfolding settledSale saleSets lastPrices
+sold-settled m n ws l o o′ f all opens words bundles ef s sold c closes a ea =
+    let O = lotsAmong m n ws in
+    let good : Regular O =
+    lots-regular m n ws (opens .few-buyers) (opens .few-lots) (λ k. omega (arith, opens .small k)) (opens .topped) in
+    let ec = closes O (lots-lent m n l ws all (opens .few-buyers) (opens .few-lots) good words bundles) in
+    (rw (ea, ec, sold .prices, sold .rounds, ef) refl, sold .bytes ∙ ap (λ f. over (setsFrom O (startPrices O) f) o) ef)
 
 module _ (b : List ℕ) (r : Worths) (e : r ≡ worthsRead b) (o : List ℕ) where
   pub sale-refused : (r .number ≡ 0 → ⊥) → (s : Sale) → s ≡ refusedSale (fault (r .number) (r .place)) → SaleSays b o o s
   unfolding saleAnswer saleRecord
   sale-refused h s q =
-      let no-yes : accepts (sheetFault b) ≡ false = ne-eqb (sheetFault b .number) 0 (λ z. h (sym (fault-number b r e) ∙ z)) in
-      record { answer = rw (no-yes, no-yes) (q ∙ ap refusedSale (read-refused b r e)); bytes = rw (no-yes, no-yes) refl }
+      let no = sheet-no b r e h in
+      record { answer = rw (no, no) (q ∙ ap refusedSale (read-refused b r e)); bytes = rw (no, no) refl }
 
   module _ (z : r .number ≡ 0) where
-    told : Accepted b r
-    told = read-accepted b r e z
+    abbrev O : Offer
+    O = lotsAmong (r .buyers) (r .lots) (r .worths)
 
-    all-yes : accepts (sheetFault b) ≡ true
-    all-yes = eq-eqb (sheetFault b .number) 0 (told .none)
+    same : O ≡ offerOf b
+    same = ap lotsOf (sheet-read b r e z)
 
-    as-read : asSheet (r .buyers) (r .lots) (r .worths) ≡ sheetOf b
-    as-read = rw (told .buyers, told .lots, told .worths) refl
+    asked : Asked (record { buyers = r .buyers; lots = r .lots; worths = r .worths })
+    asked =
+        let none = sheet-none b r e z in
+        let s = shape b none in
+        subst Asked (sym (sheet-read b r e z)) (s .few-buyers, s .some-lots, s .few-lots, s .small, topped b none)
 
     -- what question 9's sum asks
-    pub limit-asks : (r .buyers ≤ 6) × (1 ≤ r .lots) × (r .lots ≤ 4) × singles.AtMost 9999 (r .worths)
-    limit-asks =
-        let s = shape b (told .none) in (
-          omega (arith, s .few-buyers, told .buyers),
-          omega (arith, s .some-lots, told .lots),
-          omega (arith, s .few-lots, told .lots),
-          λ k. omega (arith, s .small k, ap (λ l. getD l k 0) (told .worths)),
-        )
+    pub limit-asks : (r .buyers ≤ 6) × (1 ≤ r .lots) × (r .lots ≤ 4) × AtMost 9999 (r .worths)
+    limit-asks = (asked .0, asked .1, asked .2, asked .3)
 
     -- l is the sum as it was reckoned
-    module _ (l : ℕ) (el : l ≡ roundLimit (asSheet (r .buyers) (r .lots) (r .worths))) where
-      limit-is : l ≡ roundLimit (sheetOf b)
-      limit-is = el ∙ ap roundLimit as-read
+    module _ (l : ℕ) (el : l ≡ roundLimit O) where
+      limit-is : l ≡ roundLimit (offerOf b)
+      limit-is = el ∙ ap roundLimit same
 
       pub record-short : length o < l → (s : Sale) → s ≡ refusedSale (fault 9 0) → SaleSays b o o s
       unfolding saleAnswer saleRecord
       record-short h s q =
-          let no-room : leb (roundLimit (sheetOf b)) (length o) ≡ false = lt-leb (roundLimit (sheetOf b)) (length o) (omega (arith, limit-is)) in
-          record { answer = rw (all-yes, no-room) q; bytes = rw (all-yes, no-room) refl }
+          let yes = sheet-yes b r e z in
+          let no-room : leb (roundLimit (offerOf b)) (length o) ≡ false =
+          lt-leb (roundLimit (offerOf b)) (length o) (omega (arith, limit-is)) in
+          record { answer = rw (yes, no-room) q; bytes = rw (yes, no-room) refl }
 
       module _ (room : l ≤ length o) (small : l ≤ 59994) where
-        enough : leb (roundLimit (sheetOf b)) (length o) ≡ true
-        enough = le-leb (roundLimit (sheetOf b)) (length o) (omega (arith, limit-is))
+        enough : leb (roundLimit (offerOf b)) (length o) ≡ true
+        enough = le-leb (roundLimit (offerOf b)) (length o) (omega (arith, limit-is))
 
         pub rounds-ask : Opens (r .buyers) (r .lots) (r .worths) l o
         rounds-ask =
-            let (few, some, short, low) = limit-asks in
             record {
-              few-buyers = few;
-              some-lots = some;
-              few-lots = short;
-              small = low;
-              topped = rw (told .buyers, told .lots, told .worths) (λ i q s h. worths b (told .none) .topmost i q s h);
+              few-buyers = asked .0;
+              some-lots = asked .1;
+              few-lots = asked .2;
+              small = asked .3;
+              topped = asked .4;
               room = room;
               short = omega arith;
             }
 
-        -- s are the rounds, c the closing
-        pub sale-settled : (s : State) (o′ : List ℕ) → Sold (r .buyers) (r .lots) (r .worths) l o o′ s →
-            (c : Closing) → c ≡ saleClosing (r .buyers) (r .lots) (r .worths) (s .prices) →
-            (a : Sale) → a ≡ soldBy (r .buyers) (r .lots) s c → SaleSays b o o′ a
-        unfolding saleAnswer saleRecord settledSale saleSets lastPrices ownersBy discountFor paymentFor
-        sale-settled s o′ sold c ec a ea =
+        pub sale-settled : (a : Sale) (o′ : List ℕ) → (a ≡ settledSale O) × (o′ ≡ over (saleSets O) o) → SaleSays b o o′ a
+        unfolding saleAnswer saleRecord
+        sale-settled a o′ (ea, eo) =
+            let yes = sheet-yes b r e z in
             record {
-              answer = rw (all-yes, enough, ea, ec, sold .prices, sold .rounds, limit-is, told .buyers, told .lots, told .worths) refl;
-              bytes = rw (all-yes, enough) (sold .bytes ∙ rw (limit-is, told .buyers, told .lots, told .worths) refl);
+              answer = rw (yes, enough) (ea ∙ ap settledSale same);
+              bytes = rw (yes, enough) (eo ∙ ap (λ O. over (saleSets O) o) same);
             }

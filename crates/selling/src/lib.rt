@@ -1,6 +1,15 @@
 // Sales by rounds of a lot sheet, and demand answers.
 ghost use mathlib.Core.Path.{_≡_};
-ghost use Rattle.sale.specs.Answers.{demandAnswer, SaleSays};
+ghost use Rattle.theory.specs.Lists.{over};
+ghost use Rattle.offers.specs.Offers.{lotsAmong};
+ghost use Rattle.offers.specs.Rounds.{roundLimit, saleSets};
+ghost use Rattle.lists.specs.Words.{lotWords};
+ghost use Rattle.rounds.specs.Rounds.{Opens};
+ghost use Rattle.sale.specs.Answers.{settledSale, demandAnswer, SaleSays};
+ghost use Rattle.selling.specs.Selling.{soldBy};
+use closing::Closing;
+use numbers::power;
+use rounds::State;
 use sale::Demand;
 use sale::Sale;
 
@@ -17,13 +26,56 @@ pub fn buyer_demand(sheet: &[u8], buyer: u32, prices: [u16; 96]) -> Demand
         return sale::refused_demand(10, 0);
     }
     let worths = told.worths;
-    let n = told.lots as usize;
+    let all = power(told.lots as usize);
     Demand {
         number: 0,
         place: 0,
-        bundles: demand::demand_set(&worths, &prices, n, i),
-        keen: demand::is_keen(&worths, &prices, n, i),
+        bundles: demand::demand_set(&worths, &prices, all, i),
+        keen: demand::is_keen(&worths, &prices, all, i),
     }
+}
+
+// A settled sale, of its rounds and its closing.
+fn settled(buyers: u8, lots: u8, s: State, c: Closing) -> Sale
+    ensures { λ r. ⌜ r ≡ soldBy buyers lots s c ⌝ }
+{
+    let prices = s.prices;
+    let owners = c.owners;
+    let discounts = c.discounts;
+    let payments = c.payments;
+    Sale {
+        number: 0,
+        place: 0,
+        buyers,
+        lots,
+        rounds: s.rounds,
+        prices,
+        owners,
+        discounts,
+        payments,
+    }
+}
+
+// The rounds of a sale and its closing, by the words of all allocations.
+fn sell(
+    list: &[u64],
+    worths: &[u16; 96],
+    buyers: u8,
+    lots: u8,
+    log: &mut [u8],
+    limit: u32,
+) -> Sale
+    requires { ⌜ Opens buyers lots (now worths) limit (now log) × (now list ≡ lotWords buyers lots)
+        × (limit ≡ roundLimit (lotsAmong buyers lots (now worths))) ⌝ }
+    ensures { λ r. ⌜ (r ≡ settledSale (lotsAmong buyers lots (now (worths .entry))))
+        × (now (log .exit) ≡ over (saleSets (lotsAmong buyers lots (now (worths .entry)))) (now (log .entry))) ⌝ }
+{
+    let m = buyers as usize;
+    let n = lots as usize;
+    let s = rounds::run_rounds(list, worths, m, n, log, limit);
+    let prices = s.prices;
+    let c = closing::close_sale(list, worths, &prices, 1, m, power(n));
+    settled(buyers, lots, s, c)
 }
 
 // Runs the sale of a sheet. Each round writes its set's number to the record's next byte.
@@ -41,8 +93,7 @@ pub fn run_sale(sheet: &[u8], log: &mut [u8]) -> Sale
     if log.len() < limit as usize {
         return sale::refused_sale(9, 0);
     }
-    let s = rounds::run_rounds(&worths, m, n, log, limit);
-    let prices = s.prices;
-    let c = closing::close_sale(&worths, &prices, m, n);
-    sale::settled(read.buyers, read.lots, s, c)
+    let mut words = [0u64; 2401];
+    let count = lists::list_lots(m, n, &mut words);
+    sell(&words[..count], &worths, read.buyers, read.lots, log, limit)
 }

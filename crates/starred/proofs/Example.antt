@@ -3,14 +3,14 @@ use mathlib.Core.Path.{refl}
 use Rattle.owners.specs.Singles as singles
 use Rattle.sheet.specs.Sheets.{worthsIn}
 use Rattle.sheet.specs.Questions.{sheetFault, linesFault, firstWrong}
-use Rattle.totals.specs.Seats.{seats}
-use Rattle.sale.specs.Rounds.{raised, saleSets, lastPrices, ownersBy, discountFor, paymentFor}
+use Rattle.offers.specs.Rounds.{raised, saleSets, lastPrices, ownersBy, discountFor, paymentFor}
+use Rattle.offers.specs.Places.{perBuyer}
 use Rattle.sale.specs.Answers.{settledSale}
 use Rattle.printed.specs.Printed.{printedSale}
 use Rattle.starred.specs.Example.{Example}
 
 pub example : Example
 unfolding
-    worthsIn sheetFault linesFault firstWrong seats singles.startPrices singles.saleSets singles.salePrices raised saleSets lastPrices ownersBy discountFor paymentFor
+    worthsIn sheetFault linesFault firstWrong perBuyer singles.startPrices singles.saleSets singles.salePrices raised saleSets lastPrices ownersBy discountFor paymentFor
     settledSale printedSale
 example = (refl, refl)

@@ -12,8 +12,9 @@ use Rattle.sheet.specs.Sheets.{sheetOf}
 use Rattle.sheet.specs.Questions.{accepts, onward, sheetFault}
 use Rattle.sheet.specs.Answers.{sheetRead}
 use Rattle.theory.specs.Lists.{keep, over}
-use Rattle.totals.specs.Walks.{four}
-use Rattle.totals.specs.Words.{allocations, totalOf}
+use Rattle.offers.specs.Offers.{lotsOf}
+use Rattle.offers.specs.Rounds.{totalOf}
+use Rattle.offers.specs.Places.{four}
 use Rattle.sale.specs.declared.Sale.{Sale}
 use Rattle.sale.specs.Answers.{saleAnswer, saleRecord}
 use Rattle.direct.specs.declared.Direct.{Direct}
@@ -173,7 +174,7 @@ rows =
 abbrev pub listsOf : List ℕ → ℕ → List (List ℕ)
 listsOf b total =
     let w = sheetOf b in
-    onward (accepts (sheetFault b)) (λ _. keep (λ a. eqb (totalOf w a) total) (allocations w)) []
+    onward (accepts (sheetFault b)) (λ _. keep (λ a. eqb (totalOf (lotsOf w) a) total) (lotsOf w .lists)) []
 
 -- what the definitions answer for a row, and what the row has; the record has other bytes before the sale
 abbrev pub Answers : Type 0

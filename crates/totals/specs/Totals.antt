@@ -1,28 +1,34 @@
--- Totals of owner lists of n lots among m buyers, by a table of ninety-six numbers, sixteen to a buyer. Offers `economy`, the owner lists of an economy by its
--- number, `totalAt`, and `greatestAt`.
-use mathlib.Core.Bool.{_||_}
+-- Totals and holders by a word, for m buyers, and the house where `low` is 0, and a table of sixteen numbers to a
+-- bidder. Offers the total, that in an economy, and that where the holders are a given set.
+use mathlib.Core.Bool.{Bool, _||_}
 use mathlib.Core.List.{List}
-use Prim.Native.Nat.{ℕ, zero, suc}
+use Prim.Native.Nat.{ℕ, _+_, _-_}
 use lib.Dec.{eqb}
+use lib.ListN.{getD}
 use Rattle.theory.specs.Sums.{when}
-use Rattle.theory.specs.Lists.{most, keep}
 use Rattle.theory.specs.Markets.{total}
-use Rattle.owners.specs.Owners.{allocations, zeroFirst, lacks, market, single}
-use Rattle.owners.specs.Prices.{plain, price}
+use Rattle.theory.specs.Coalitions.{holder}
+use Rattle.owners.specs.Owners.{number}
+use Rattle.owners.specs.Prices.{entry}
+use Rattle.lists.specs.Words.{digit, wordMarket}
 
--- rule 4.4: economy 0 has all buyers, and economy e all but buyer e
-abbrev pub economy : ℕ → ℕ → ℕ → List (List ℕ)
-economy m n zero = allocations (zeroFirst m) n
-economy m n (suc e) = keep (lacks (suc e)) (allocations (zeroFirst m) n)
+abbrev pub wordTotal : ℕ → ℕ → List ℕ → ℕ → ℕ
+wordTotal low m t w = total (wordMarket low m) (entry t) w
 
--- the sum of what stands in the table t for what the buyers own; the empty bundle counts nothing
-abbrev pub totalAt : ℕ → List ℕ → List ℕ → ℕ
-totalAt m t a = total (market m single) (price (plain 6) t) a
+-- the word is one of the economy without buyer e, or of all for 0
+abbrev pub wordIn : ℕ → ℕ → Bool
+wordIn e w = eqb e 0 || eqb (digit e w) 0
 
--- the greatest total of an economy: by prices its revenue, by worths the greatest total worth
-abbrev pub greatestAt : ℕ → ℕ → List ℕ → ℕ → ℕ
-greatestAt m n t e = most (totalAt m t) (economy m n e)
+abbrev pub wordTotalIn : ℕ → ℕ → List ℕ → ℕ → ℕ → ℕ
+wordTotalIn low m t e w = when (wordIn e w) (wordTotal low m t w)
 
--- an owner list's total, if it is one of economy e
-abbrev pub totalIn : ℕ → List ℕ → ℕ → List ℕ → ℕ
-totalIn m t e a = when (eqb e 0 || lacks e a) (totalAt m t a)
+-- the number of the set of buyers that own something
+abbrev pub wordHolders : ℕ → ℕ → ℕ
+wordHolders m w = number m 1 (holder (wordMarket 1 m) w)
+
+abbrev pub wordTotalBy : ℕ → ℕ → List ℕ → ℕ → ℕ → ℕ
+wordTotalBy low m t n w = when (eqb (wordHolders m w) n) (wordTotal low m t w)
+
+-- what buyer i pays for what it owns by a word: with it, the others have what they could have without i
+abbrev pub wordPayment : List ℕ → List ℕ → ℕ → ℕ → ℕ
+wordPayment greatest t w i = getD greatest i 0 + entry t i (digit i w) - getD greatest 0 0

@@ -1,29 +1,26 @@
 -- `closing::closes` meets its contract.
-use lib.ListN.{take}
+use mathlib.Core.Path.{_≡_, refl, sym, _∙_}
+use mathlib.Core.Bool.{Bool, false, _&&_}
+use Prim.Native.Nat.{ℕ}
+use lib.Dec.{eqb}
 use borrow.Author.Needs.{needs}
-use Rattle.closing.proofs.Closings.{closes-short, closes-served}
+use borrow.Author.Tests.{eq-eqb, ne-eqb}
 use Rattle.closing.proofs.closes.Statement.{statement}
 use Rattle.closing.proofs.closes.Tie as tie
 
-total-of-requires : tie.Need-total-of-requires
-total-of-requires c κs = search needs
+-- t is the total T, and `top` the revenue
+less-taken : (t top T : ℕ) (served : Bool) → t ≡ T → (t ≡ top → ⊥) → false ≡ (eqb T top && served)
+less-taken t top T served e h = rw (ne-eqb T top (λ q. h (e ∙ q))) refl
+
+all-taken : (t top T : ℕ) (served r : Bool) → t ≡ T → t ≡ top → r ≡ served → r ≡ (eqb T top && served)
+all-taken t top T served r e h is = rw (eq-eqb T top (sym e ∙ h)) is
 
 returns : tie.Need-returns
-returns c =
-    let s = c .before .before in
-    let z = s .args in
-    let t = c .before .total-of in
-    closes-short (z .buyers) (z .lots) (z .worths .now) (z .prices .now) (s .pre .0) (s .pre .1) (take (z .lots) (z .owners)) (t .result) (z .top) (t .ensures .is) (s .pre .2) (c .if1 .taken)
-
-all-served-requires : tie.Need-all-served-requires
-all-served-requires c κs = search needs
+returns c = less-taken _ _ _ _ (c .before .total-of .ensures .is) (c .if1 .taken)
 
 returns-2 : tie.Need-returns-2
 returns-2 c =
-    let s = c .before .before .before in
-    let z = s .args in
-    let t = c .before .before .total-of in
-    closes-served (z .buyers) (z .lots) (z .worths .now) (z .prices .now) (s .pre .0) (s .pre .1) (take (z .lots) (z .owners)) (t .result) (z .top) (t .ensures .is) (s .pre .2) (c .before .if1 .left) (c .all-served .result) (c .all-served .ensures)
+    all-taken _ _ _ _ _ (c .before .before .total-of .ensures .is) (c .before .if1 .left) (c .all-served .ensures)
 
 pub closes-spec : {M : Type 1} → statement M
-closes-spec = tie.close (tie.spec total-of-requires returns all-served-requires returns-2)
+closes-spec = tie.close (tie.spec (λ c κs. search needs) returns (λ c κs. search needs) returns-2)

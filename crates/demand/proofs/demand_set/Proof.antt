@@ -1,75 +1,64 @@
 -- `demand::demand_set` meets its contract. The invariant: the demanded bundles below s are in the set.
 use mathlib.Core.Logic.{⊎-elim}
-use Prim.Native.Nat.{_-_, _^_, _<_}
+use Prim.Native.Nat.{_-_, _<_}
 use native.Mathlib.Omega.{arith}
-use Rattle.numbers.proofs.Numbers.{pow-small}
-use Rattle.demand.specs.Demands.{quoted, demandSet}
+use Rattle.owners.specs.Prices.{demandSet}
+use Rattle.demand.specs.Demands.{quoted}
 use Rattle.demand.proofs.Loops.{power-small, Gathered, gathered-none, gathered-in, gathered-out, gathered-all}
 use Rattle.demand.proofs.demand_set.Statement.{statement}
 use Rattle.demand.proofs.demand_set.Tie as tie
 
 abbrev Inv-loop : tie.InvT-loop
-Inv-loop worths prices n i all set₀ s₀ set s = Gathered (quoted n worths prices .wants i) (2 ^ n) s set (demandSet n (quoted n worths prices) i)
+Inv-loop worths prices bundles i set₀ s₀ set s =
+    Gathered (quoted bundles worths prices .wants i) bundles s set (demandSet bundles (quoted bundles worths prices) i)
 
 abbrev μ-loop : tie.MeasureT-loop
-μ-loop worths prices n i all set₀ s₀ set s = all - s
-
-power-requires : tie.Need-power-requires Inv-loop μ-loop
-power-requires c κs = omega arith
+μ-loop worths prices bundles i set₀ s₀ set s = bundles - s
 
 loop-holds : tie.Need-loop-holds Inv-loop μ-loop
-loop-holds c = gathered-none (quoted (c .before .args .n) (c .before .args .worths .now) (c .before .args .prices .now) .wants (c .before .args .i)) (2 ^ c .before .args .n)
+loop-holds c =
+    let z = c .before .before .args in
+    gathered-none (quoted (z .bundles) (z .worths .now) (z .prices .now) .wants (z .i)) (z .bundles)
 
 wants-requires : tie.Need-wants-requires Inv-loop μ-loop
-wants-requires c κs = omega (arith, pow-small (c .before .before .before .args .n) (omega arith), c .before .before .power .ensures .is)
-
-power-requires-2 : tie.Need-power-requires-2 Inv-loop μ-loop
-power-requires-2 c κs = omega (arith, pow-small (c .before .before .before .before .before .args .n) (omega arith), c .before .before .before .before .power .ensures .is)
+wants-requires c κs = let p = c .before .before .before .before .pre in (p .0, omega arith, omega arith)
 
 add-set : tie.Need-add-set Inv-loop μ-loop
-add-set c = omega (arith, c .before .before .before .before .loop .inv .small, c .power2 .ensures .is, c .power2 .ensures .most)
-
-add-s : tie.Need-add-s Inv-loop μ-loop
-add-s c = omega arith
-
-loop-less : tie.Need-loop-less Inv-loop μ-loop
-loop-less c = omega arith
+add-set c =
+    omega (
+      arith,
+      c .before .before .before .before .loop .inv .small,
+      c .power .ensures .is,
+      c .power .ensures .most,
+    )
 
 loop-again : tie.Need-loop-again Inv-loop μ-loop
 loop-again c =
     let l = c .before .before .before in
-    let z = l .before .before .args in
-    let q = quoted (z .n) (z .worths .now) (z .prices .now) in
-    let h : l .loop .s < 2 ^ z .n = omega (arith, l .before .power .ensures .is) in
+    let z = l .before .before .before .args in
+    let wants = quoted (z .bundles) (z .worths .now) (z .prices .now) .wants (z .i) in
+    let h : l .loop .s < z .bundles = omega arith in
     ⊎-elim
-    (λ w. gathered-in (q .wants (z .i)) (2 ^ z .n) (l .loop .s) (l .loop .set) _ (l .loop .inv) h (c .before .wants .result) (c .before .wants .ensures) (c .if1 .set) (w .0 .taken) (w .1 .result) (w .1 .ensures .is) (w .2))
-    (λ w. gathered-out (q .wants (z .i)) (2 ^ z .n) (l .loop .s) (l .loop .set) _ (l .loop .inv) h (c .before .wants .result) (c .before .wants .ensures) (c .if1 .set) (w .0 .left) (w .1))
+    (λ w. gathered-in wants (z .bundles) (l .loop .s) (l .loop .set) _ (l .loop .inv) h (c .before .wants .result)
+    (c .before .wants .ensures) (c .if1 .set) (w .0 .taken) (w .1 .result) (w .1 .ensures .is) (w .2))
+    (λ w. gathered-out wants (z .bundles) (l .loop .s) (l .loop .set) _ (l .loop .inv) h (c .before .wants .result)
+    (c .before .wants .ensures) (c .if1 .set) (w .0 .left) (w .1))
     (c .if1 .came)
 
 cast-result : tie.Need-cast-result Inv-loop μ-loop
 cast-result c =
-    let n = c .before .before .before .args .n in
-    omega (arith, c .before .loop .inv .small, c .before .loop .inv .within, pow-small n (omega arith), power-small (c .before .loop .s) (omega (arith, c .before .loop .inv .within, pow-small n (omega arith))))
+    let l = c .before .loop in
+    omega (arith, l .inv .small, l .inv .within, power-small (l .s) (omega (arith, l .inv .within)))
 
 returns : tie.Need-returns Inv-loop μ-loop
 returns c =
     let l = c .before in
-    let z = l .before .before .args in
-    gathered-all (quoted (z .n) (z .worths .now) (z .prices .now) .wants (z .i)) (2 ^ z .n) (l .loop .s) (l .loop .set) _ (l .loop .inv) (omega (arith, l .before .power .ensures .is))
+    let z = l .before .before .before .args in
+    gathered-all (quoted (z .bundles) (z .worths .now) (z .prices .now) .wants (z .i)) (z .bundles) (l .loop .s)
+    (l .loop .set) _ (l .loop .inv) (omega arith)
 
 pub demand-set-spec : {M : Type 1} → statement M
 demand-set-spec =
     tie.close
-    (tie.spec
-    Inv-loop
-    μ-loop
-    power-requires
-    loop-holds
-    wants-requires
-    power-requires-2
-    add-set
-    add-s
-    loop-less
-    loop-again
-    cast-result
-    returns)
+    (tie.spec Inv-loop μ-loop loop-holds wants-requires (λ c κs. omega arith) add-set (λ c. omega arith)
+    (λ c. omega arith) loop-again cast-result returns)

@@ -5,11 +5,8 @@ use borrow.Author.Needs.{needs}
 use Rattle.demand.proofs.is_keen.Statement.{statement}
 use Rattle.demand.proofs.is_keen.Tie as tie
 
-best-of-requires : tie.Need-best-of-requires
-best-of-requires c κs = search needs
-
 returns : tie.Need-returns
 returns c = ap (ltb 65535) (c .best-of .ensures .is)
 
 pub is-keen-spec : {M : Type 1} → statement M
-is-keen-spec = tie.close (tie.spec best-of-requires returns)
+is-keen-spec = tie.close (tie.spec (λ c κs. search needs) returns)

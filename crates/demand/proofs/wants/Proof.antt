@@ -5,14 +5,8 @@ use borrow.Author.Needs.{needs}
 use Rattle.demand.proofs.wants.Statement.{statement}
 use Rattle.demand.proofs.wants.Tie as tie
 
-best-of-requires : tie.Need-best-of-requires
-best-of-requires c κs = search needs
-
-payoff-of-requires : tie.Need-payoff-of-requires
-payoff-of-requires c κs = search needs
-
 returns : tie.Need-returns
 returns c = ap₂ eqb (c .payoff-of .ensures .is) (c .before .best-of .ensures .is)
 
 pub wants-spec : {M : Type 1} → statement M
-wants-spec = tie.close (tie.spec best-of-requires payoff-of-requires returns)
+wants-spec = tie.close (tie.spec (λ c κs. search needs) (λ c κs. search needs) returns)

@@ -15,11 +15,11 @@ use Rattle.rounds.proofs.run_rounds.Statement.{statement}
 use Rattle.rounds.proofs.run_rounds.Tie as tie
 
 abbrev Inv-loop : tie.InvT-loop
-Inv-loop worths buyers lots log₀ limit subsets all sets s₀ payoffs₀ gains₀ revenues₀ log s payoffs gains revenues =
+Inv-loop list worths buyers lots log₀ limit subsets all sets s₀ payoffs₀ gains₀ revenues₀ log s payoffs gains revenues =
     Running buyers lots all worths limit log₀ log s (tables payoffs gains revenues)
 
 abbrev μ-loop : tie.MeasureT-loop
-μ-loop worths buyers lots log₀ limit subsets all sets s₀ payoffs₀ gains₀ revenues₀ log s payoffs gains revenues =
+μ-loop list worths buyers lots log₀ limit subsets all sets s₀ payoffs₀ gains₀ revenues₀ log s payoffs gains revenues =
     limit - s .rounds
 
 rest-some : (o : List ℕ) (n : ℕ) → n < length o → 0 < length (take (length o - n) (drop n o))
@@ -27,11 +27,11 @@ rest-some o n h = simp (length-take, length-drop) (omega arith)
 
 -- what stays the same, once the number of bundles is known
 knows : (p : tie.After-power Inv-loop μ-loop) →
-    Known (p .before .before .before .before .args .buyers) (p .power .result)
-    (p .before .before .before .before .args .worths .now) (p .before .before .values .result)
+    Known (p .before .before .before .before .before .args .buyers) (p .power .result)
+    (p .before .before .before .before .before .args .worths .now) (p .before .before .values .result)
 knows p =
     let v = p .before .before in
-    known (v .before .before .pre) (v .values .ensures) (p .power .ensures .is)
+    known (v .before .before .before .pre .0) (v .values .ensures) (p .power .ensures .is)
 
 -- the places before the loop, and after a round
 module _ (l : tie.At-loop Inv-loop μ-loop) where
@@ -39,7 +39,7 @@ module _ (l : tie.At-loop Inv-loop μ-loop) where
   sets-place = l .before .before .before .before .before .before .before .before .before .before
 
   abbrev begins : tie.Start Inv-loop μ-loop
-  begins = sets-place .before .before .before .before .before
+  begins = sets-place .before .before .before .before .before .before
 
 abbrev turning : tie.After-round Inv-loop μ-loop → tie.Then1 Inv-loop μ-loop
 turning r = r .before .before .before .before .before .before .before
@@ -49,16 +49,17 @@ module _ (t : tie.Then1 Inv-loop μ-loop) where
   room : t .before .before .loop .s .rounds < length (t .before .before .loop .log)
   room =
       let l = t .before .before in
-      omega (arith, t .if1 .taken, l .loop .inv .going .same, begins l .pre .room)
+      omega (arith, t .if1 .taken, l .loop .inv .going .same, begins l .pre .0 .room)
 
 values-requires : tie.Need-values-requires Inv-loop μ-loop
-values-requires c κs = (c .before .pre .few-buyers, c .before .pre .few-lots, c .before .pre .small)
+values-requires c κs =
+    let p = c .before .before .pre in (p .0 .few-buyers, p .0 .few-lots, p .0 .small, p .1)
 
 power-requires : tie.Need-power-requires Inv-loop μ-loop
-power-requires c κs = omega (arith, c .before .before .before .pre .few-lots)
+power-requires c κs = omega (arith, c .before .before .before .before .pre .0 .few-lots)
 
 sets-of-requires : tie.Need-sets-of-requires Inv-loop μ-loop
-sets-of-requires c κs = c .before .before .before .before .pre .few-buyers
+sets-of-requires c κs = c .before .before .before .before .before .pre .0 .few-buyers
 
 sub-payoffs : tie.Need-sub-payoffs Inv-loop μ-loop
 sub-payoffs c =
@@ -98,7 +99,7 @@ loop-holds c =
           record {
             payoffs = π .payoffs .ensures .1;
             keeps =
-                keeps-start (v .before .before .args .buyers) (v .values .result) (π .payoffs .result)
+                keeps-start (v .before .before .before .args .buyers) (v .values .result) (π .payoffs .result)
                 (g .gains .result) (c .revenues .result) (π .payoffs .ensures .0) (g .gains .ensures)
                 (c .revenues .ensures);
             prices = ap length (t .start .ensures .0) ∙ start-long;
@@ -128,8 +129,8 @@ round-requires c κs =
       kept-small (k .few) (l .loop .inv .valued .small) (l .loop .inv .kept),
       rest-some (l .loop .log) (l .loop .s .rounds) (room (c .before .before .before .before .before .before)),
       l .loop .inv .kept .prices,
-      λ k. omega (arith, l .loop .inv .going .small k, z .pre .short),
-      omega (arith, z .pre .short),
+      λ k. omega (arith, l .loop .inv .going .small k, z .pre .0 .short),
+      omega (arith, z .pre .0 .short),
     )
 
 same-length : tie.Need-same-length Inv-loop μ-loop
@@ -138,7 +139,7 @@ same-length c =
     let t = turning r in
     let l = t .before .before in
     let i = l .loop .inv in
-    kept (i .going) (t .if1 .taken) (begins l .pre .room) (r .round .ensures (i .values) (i .kept) .0)
+    kept (i .going) (t .if1 .taken) (begins l .pre .0 .room) (r .round .ensures (i .values) (i .kept) .0)
 
 returns : tie.Need-returns Inv-loop μ-loop
 returns c =
@@ -146,8 +147,8 @@ returns c =
     let t = turning r in
     let l = t .before .before in
     let i = l .loop .inv in
-    sold (begins l .pre) (i .valued) (sets-place l .before .power .ensures .is)
-    (settles (i .going) (t .if1 .taken) (begins l .pre .room) (r .round .ensures (i .values) (i .kept) .0)
+    sold (begins l .pre .0) (i .valued) (sets-place l .before .power .ensures .is)
+    (settles (i .going) (t .if1 .taken) (begins l .pre .0 .room) (r .round .ensures (i .values) (i .kept) .0)
     (c .if2 .taken))
 
 loop-less : tie.Need-loop-less Inv-loop μ-loop
@@ -158,7 +159,7 @@ loop-less c =
     let i = l .loop .inv in
     omega (
       arith,
-      one-more (i .going) (t .if1 .taken) (begins l .pre .room) (r .round .ensures (i .values) (i .kept) .0)
+      one-more (i .going) (t .if1 .taken) (begins l .pre .0 .room) (r .round .ensures (i .values) (i .kept) .0)
           (c .if2 .left),
     )
 
@@ -172,7 +173,7 @@ loop-again c =
     record {
       values = i .values;
       valued = i .valued;
-      going = goes-on (i .going) (t .if1 .taken) (begins l .pre .room) turn
+      going = goes-on (i .going) (t .if1 .taken) (begins l .pre .0 .room) turn
           (step-small (begins l .args .buyers) (sets-place l .before .power .result) (begins l .args .worths .now))
           (c .if2 .left);
       kept = next;
@@ -182,7 +183,7 @@ choice-requires : tie.Need-choice-requires Inv-loop μ-loop
 choice-requires c κs =
     let l = c .before .before .before .before .before .before in
     let n = sets-place l in
-    (begins l .pre .few-buyers, n .before .before .subsets .ensures, n .sets-of .ensures)
+    (begins l .pre .0 .few-buyers, n .before .before .subsets .ensures, n .sets-of .ensures)
 
 same-length-2 : tie.Need-same-length-2 Inv-loop μ-loop
 same-length-2 c = c .before .before .before .before .before .before .before .loop .inv .going .same
@@ -194,7 +195,7 @@ returns-2 c =
     let i = l .loop .inv in
     let z = begins l in
     let all = sets-place l .before .power .result in
-    sold (z .pre) (i .valued) (sets-place l .before .power .ensures .is)
+    sold (z .pre .0) (i .valued) (sets-place l .before .power .ensures .is)
     (runs-out (i .going) (c .choice .result) (t .if1 .left)
     (chosen-at (z .args .buyers) (all - 1) (z .args .worths .now) (l .loop .s .prices) (l .loop .payoffs)
     (i .kept .payoffs) (i .values)

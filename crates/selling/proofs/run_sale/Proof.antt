@@ -1,27 +1,22 @@
 -- `selling::run_sale` meets its contract.
+use mathlib.Core.Path.{_≡_, sym, ap, _∙_}
+use mathlib.Core.List.{List}
+use Prim.Native.Nat.{ℕ}
 use native.Mathlib.Omega.{arith}
+use lib.ListN.{length, take, replicate}
 use borrow.Author.Needs.{needs}
+use Rattle.lists.specs.Words.{lotWords}
+use Rattle.lists.proofs.Walks.{over-covers, over-taken}
 use Rattle.selling.proofs.Selling.{sale-refused, limit-asks, record-short, rounds-ask, sale-settled}
 use Rattle.selling.proofs.run_sale.Statement.{statement}
 use Rattle.selling.proofs.run_sale.Tie as tie
-
-read-worths-requires : tie.Need-read-worths-requires
-read-worths-requires c κs = search needs
-
-refused-sale-requires : tie.Need-refused-sale-requires
-refused-sale-requires c κs = search needs
 
 returns : tie.Need-returns
 returns c =
     let p = c .before .before .before in
     let z = p .before .before .before .args in
-    sale-refused (z .sheet .now) (p .read-worths .result) (p .read-worths .ensures) (z .log .now) (c .before .if1 .taken) (c .refused-sale .result) (c .refused-sale .ensures)
-
-cast-m : tie.Need-cast-m
-cast-m c = search needs
-
-cast-n : tie.Need-cast-n
-cast-n c = search needs
+    sale-refused (z .sheet .now) (p .read-worths .result) (p .read-worths .ensures) (z .log .now)
+    (c .before .if1 .taken) (c .refused-sale .result) (c .refused-sale .ensures)
 
 round-limit-requires : tie.Need-round-limit-requires
 round-limit-requires c κs =
@@ -30,69 +25,77 @@ round-limit-requires c κs =
     let z = p .before .before .before .args in
     limit-asks (z .sheet .now) (p .read-worths .result) (p .read-worths .ensures) (z .log .now) (e .if1 .left)
 
-cast-if2 : tie.Need-cast-if2
-cast-if2 c = search needs
-
-refused-sale-requires-2 : tie.Need-refused-sale-requires-2
-refused-sale-requires-2 c κs = search needs
-
 returns-2 : tie.Need-returns-2
 returns-2 c =
     let l = c .before .before in
     let e = l .before .before .before .before .before in
     let p = e .before .before in
     let z = p .before .before .before .args in
-    record-short (z .sheet .now) (p .read-worths .result) (p .read-worths .ensures) (z .log .now) (e .if1 .left) (l .round-limit .result) (l .round-limit .ensures .is) (omega arith) (c .refused-sale2 .result) (c .refused-sale2 .ensures)
+    record-short (z .sheet .now) (p .read-worths .result) (p .read-worths .ensures) (z .log .now) (e .if1 .left)
+    (l .round-limit .result) (l .round-limit .ensures .is) (omega arith) (c .refused-sale2 .result)
+    (c .refused-sale2 .ensures)
 
-run-rounds-requires : tie.Need-run-rounds-requires
-run-rounds-requires c κs =
-    let l = c .before .before .before in
-    let e = l .before .before .before .before .before in
+list-lots-requires : tie.Need-list-lots-requires
+list-lots-requires c κs =
+    let e = c .before .before .before .before .before .before .before in
     let p = e .before .before in
     let z = p .before .before .before .args in
-    rounds-ask (z .sheet .now) (p .read-worths .result) (p .read-worths .ensures) (z .log .now) (e .if1 .left) (l .round-limit .result) (l .round-limit .ensures .is) (omega arith) (l .round-limit .ensures .most)
+    let (few, some, short, low) = limit-asks (z .sheet .now) (p .read-worths .result) (p .read-worths .ensures)
+    (z .log .now) (e .if1 .left) in
+    (few, short, omega arith)
 
-close-sale-requires : tie.Need-close-sale-requires
-close-sale-requires c κs =
-    let l = c .before .before .before .before .before .before .before .before .before in
-    let e = l .before .before .before .before .before in
-    let p = e .before .before in
-    let z = p .before .before .before .args in
-    let (few, some, short, low) = limit-asks (z .sheet .now) (p .read-worths .result) (p .read-worths .ensures) (z .log .now) (e .if1 .left) in
-    (few, short)
+-- the words stand at the front of the table
+module _ (c : tie.After-list-lots) where
+  abbrev no-refusal : tie.Else1
+  no-refusal = c .before .before .before .before .before .before .before .before
 
-settled-requires : tie.Need-settled-requires
-settled-requires c κs = search needs
+  abbrev read : tie.After-read-worths
+  read = no-refusal .before .before
 
-same-length : tie.Need-same-length
-same-length c = search needs
+  abbrev all : List ℕ
+  all = lotWords (read .read-worths .result .buyers) (read .read-worths .result .lots)
+
+  taken : take (c .list-lots .result) (c .list-lots .last .1 .1 .0) ≡ all
+  taken =
+      over-taken all (replicate 2401 0) (c .list-lots .last .1 .1 .0) (c .list-lots .result) (c .list-lots .ensures .0)
+      (c .list-lots .ensures .1)
+
+array-share-prefix-words : tie.Need-array-share-prefix-words
+array-share-prefix-words c =
+    let w = c .before in
+    over-covers (all w) (replicate 2401 0) (w .list-lots .last .1 .1 .0) (w .list-lots .result)
+    (w .list-lots .ensures .0) (w .list-lots .ensures .1)
+
+slice-aggregate-sell : tie.Need-slice-aggregate-sell
+slice-aggregate-sell c = let w = c .before .before in w .list-lots .ensures .0 ∙ sym (ap length (taken w))
+
+sell-requires : tie.Need-sell-requires
+sell-requires c κs =
+    let w = c .before .before .before .before in
+    let l = w .before .before .before in
+    let p = read w in
+    let z = p .before .before .before .args in (
+      rounds-ask (z .sheet .now) (p .read-worths .result) (p .read-worths .ensures) (z .log .now)
+          (no-refusal w .if1 .left) (l .round-limit .result) (l .round-limit .ensures .is) (omega arith)
+          (l .round-limit .ensures .most),
+      taken w,
+      l .round-limit .ensures .is,
+    )
 
 returns-3 : tie.Need-returns-3
 returns-3 c =
-    let k = c .before in
-    let t = k .before .before .before .before .before .before in
-    let l = t .before .before .before .before in
-    let e = l .before .before .before .before .before in
-    let p = e .before .before in
+    let s = c .before .before in
+    let w = s .before .before .before .before .before in
+    let l = w .before .before .before in
+    let p = read w in
     let z = p .before .before .before .args in
-    sale-settled (z .sheet .now) (p .read-worths .result) (p .read-worths .ensures) (z .log .now) (e .if1 .left) (l .round-limit .result) (l .round-limit .ensures .is) (omega arith) (l .round-limit .ensures .most)
-    (t .run-rounds .result) _ (t .run-rounds .ensures) (k .close-sale .result) (k .close-sale .ensures) (c .settled .result) (c .settled .ensures)
+    sale-settled (z .sheet .now) (p .read-worths .result) (p .read-worths .ensures) (z .log .now)
+    (no-refusal w .if1 .left) (l .round-limit .result) (l .round-limit .ensures .is) (omega arith)
+    (l .round-limit .ensures .most) (s .sell .result) _ (s .sell .ensures)
 
 pub run-sale-spec : {M : Type 1} → statement M
 run-sale-spec =
     tie.close
-    (tie.spec
-    read-worths-requires
-    refused-sale-requires
-    returns
-    cast-m
-    cast-n
-    round-limit-requires
-    cast-if2
-    refused-sale-requires-2
-    returns-2
-    run-rounds-requires
-    close-sale-requires
-    settled-requires
-    same-length
-    returns-3)
+    (tie.spec (λ c κs. search needs) (λ c κs. search needs) returns (λ c. search needs) (λ c. search needs)
+    round-limit-requires (λ c. search needs) (λ c κs. search needs) returns-2 (λ c. search needs) list-lots-requires
+    array-share-prefix-words slice-aggregate-sell sell-requires (λ c. search needs) returns-3)

@@ -1,2 +1,0 @@
--- Laws of the walk that fills the table.
-pub mod Walking

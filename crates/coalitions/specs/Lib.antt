@@ -1,2 +1,0 @@
--- The table of coalition values.
-pub mod Values

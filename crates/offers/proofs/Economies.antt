@@ -1,0 +1,62 @@
+-- The economies of an offer by their numbers (`Numbers`, `economy-number`, `number-economy`, `at-number`); each has some
+-- of all allocations (`economy-fewer`), and its revenue is reached and not passed (`revenue-greatest`).
+use mathlib.Core.Path.{_≡_, refl}
+use mathlib.Core.List.{List}
+use Prim.Native.Nat.{ℕ, zero, suc, _≤_}
+use native.Mathlib.Omega.{arith}
+use Rattle.theory.specs.Lists.{_∈_}
+use Rattle.theory.specs.Markets.{total}
+use Rattle.theory.specs.Auction.{Economy, whole, lacking}
+use Rattle.theory.proofs.Lists.{most-upper, most-reached, keep-from}
+use Rattle.owners.specs.Owners.{lacks}
+use Rattle.owners.specs.Quick.{presentIn}
+use Rattle.owners.proofs.Economies.{economies-all, whole-in, lacking-in}
+use Rattle.offers.specs.Offers.{Offer, market, Bids, priceAt, without, economy, theAuction, revenue}
+use Rattle.offers.specs.Claims.{economyAt, Regular}
+
+-- an economy has the number e: its lists, and who is present
+abbrev pub Numbers : Offer → Economy (List ℕ) → ℕ → Type 0
+Numbers O y e = (y .lists ≡ economy O e) × ((i : ℕ) → Bids O i → y .present i ≡ presentIn e i)
+
+module _ (O : Offer) where
+  pub but-one : (i : ℕ) → 1 ≤ i → without O i ≡ economy O i
+  but-one zero h = absurd (omega arith)
+  but-one (suc i) h = refl
+
+  but-present : (i : ℕ) → 1 ≤ i → (j : ℕ) → lacking {A = List ℕ} i (without O i) .present j ≡ presentIn i j
+  but-present zero h j = absurd (omega arith)
+  but-present (suc i) h j = refl
+
+  pub economy-number : (y : Economy (List ℕ)) → y ∈ theAuction O .economies →
+      (e : ℕ) × (e ≤ O .buyers) × Numbers O y e
+  economy-number =
+      economies-all (O .buyers) (O .lists) (λ y. (e : ℕ) × (e ≤ O .buyers) × Numbers O y e)
+      (0, omega arith, (refl, λ i r. refl))
+      (λ i r. (i, omega arith, (but-one i (omega arith), λ j q. but-present i (omega arith) j)))
+
+  pub number-economy : (e : ℕ) → e ≤ O .buyers → (y : Economy (List ℕ)) × (y ∈ theAuction O .economies) × Numbers O y e
+  number-economy zero h = (whole (O .lists), whole-in (O .buyers) (O .lists), (refl, λ i r. refl))
+  number-economy (suc e) h = (
+    lacking (suc e) (without O (suc e)),
+    lacking-in (O .buyers) (O .lists) (suc e) (omega arith),
+    (refl, λ j q. refl),
+  )
+
+  pub at-number : (e : ℕ) → Numbers O (economyAt O e) e
+  at-number e = (refl, λ i r. refl)
+
+  pub economy-in : (e : ℕ) → e ≤ O .buyers → economyAt O e ∈ theAuction O .economies
+  economy-in zero h = whole-in (O .buyers) (O .lists)
+  economy-in (suc e) h = lacking-in (O .buyers) (O .lists) (suc e) (omega arith)
+
+  pub economy-fewer : (e : ℕ) (a : List ℕ) → a ∈ economy O e → a ∈ O .lists
+  economy-fewer zero a h = h
+  economy-fewer (suc e) a h = keep-from (lacks (suc e)) (O .lists) h .0
+
+  pub revenue-greatest : Regular O → (ps : List ℕ) (e : ℕ) →
+      ((a : List ℕ) × (a ∈ economy O e) × (total (market O) (priceAt O ps) a ≡ revenue O ps e))
+      × ((c : List ℕ) → c ∈ economy O e → total (market O) (priceAt O ps) c ≤ revenue O ps e)
+  revenue-greatest regular ps e = (
+    most-reached (total (market O) (priceAt O ps)) (regular .some e .1),
+    λ c m. most-upper (total (market O) (priceAt O ps)) m,
+  )

@@ -1,0 +1,2 @@
+-- How a sale's answer is put together.
+pub mod Selling

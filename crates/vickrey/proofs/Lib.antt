@@ -1,2 +1,0 @@
--- Laws of the direct way.
-pub mod Reckoning

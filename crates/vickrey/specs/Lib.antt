@@ -1,2 +1,0 @@
--- The owners and payments of the direct way.
-pub mod Reckoning
