@@ -43,8 +43,7 @@ printed-refused f n = ap (λ x. pick x (settledText (refusedSale f)) (refusedTex
 
 pub shortest : (r : Sale) → 13 ≤ length (printed r)
 shortest r =
-    let long = text-length (r .buyers) (r .lots) (r .rounds) (r .prices) (r .owners) (r .discounts) (r .payments) in
-    by-test (eqb (r .number) 0) (λ e. rw e (omega (arith, long))) (λ e. rw e (omega (arith, line-length (r .number ∷ r .place ∷ []))))
+    by-test (eqb (r .number) 0) (λ e. rw e (omega (arith, text-length r))) (λ e. rw e (omega (arith, line-length (r .number ∷ r .place ∷ []))))
 
 module _ (b : List ℕ) where
   settled : sheetFault b .number ≡ 0 → printedSale b ≡ settledText (settledSale (sheetOf b))
@@ -72,14 +71,8 @@ module _ (b : List ℕ) where
   longest =
       elim (ℕ-discrete (sheetFault b .number) 0) [
         | yes z ↦
-            let s = settledSale (sheetOf b) in
-            omega (
-              arith,
-              ap length (settled z),
-              text-length (s .buyers) (s .lots) (s .rounds) (s .prices) (s .owners) (s .discounts) (s .payments),
-              shape b z .few-buyers,
-              shape b z .few-lots,
-            )
+            let long = text-length (settledSale (sheetOf b)) in
+            omega (arith, ap length (settled z), long, shape b z .few-buyers, shape b z .few-lots)
         | no n ↦ omega (arith, ap length (refused n), line-length (sheetFault b .number ∷ sheetFault b .place ∷ []))
       ]
 

@@ -30,17 +30,8 @@ returns c =
     let s = t .before .before .before .before in
     print-refused _ _ _ _ (s .run-sale .ensures) _ _ _ (t .if1 .taken) (p .put-refusal .ensures)
 
-cast-m : tie.Need-cast-m
-cast-m c = search needs
-
-cast-n : tie.Need-cast-n
-cast-n c = search needs
-
 put-settled-requires : tie.Need-put-settled-requires
-put-settled-requires c κs =
-    let s = c .before .before .before .before .before .before .before .before .before .before .before .before in
-    let fit = prints-fit _ _ _ _ (s .run-sale .ensures) in
-    (fit .buyers, fit .lots, fit .rounds, fit .discounts, fit .payments)
+put-settled-requires c κs = prints-fit _ _ _ _ (c .before .before .before .before .before .run-sale .ensures)
 
 same-length-3 : tie.Need-same-length-3
 same-length-3 c = search needs
@@ -51,7 +42,7 @@ same-length-4 c = search needs
 returns-2 : tie.Need-returns-2
 returns-2 c =
     let q = c .before .before in
-    let e = q .before .before .before .before .before .before .before .before .before in
+    let e = q .before .before in
     let s = e .before .before .before .before in
     print-settled _ _ _ _ (s .run-sale .ensures) _ _ _ (e .if1 .left) (q .put-settled .ensures)
 
@@ -65,8 +56,6 @@ print-sale-spec =
     same-length
     same-length-2
     returns
-    cast-m
-    cast-n
     put-settled-requires
     same-length-3
     same-length-4

@@ -1,7 +1,7 @@
 -- `printed::put_lots` meets its contract. The invariant: the lines of the first j lots are printed.
 use mathlib.Core.List.{[], _∷_}
 use mathlib.Core.Path.{_≡_, refl, ap, _∙_}
-use Prim.Native.Nat.{_+_, _-_, _≤_}
+use Prim.Native.Nat.{_+_, _-_, _*_, _≤_}
 use native.Mathlib.Omega.{arith}
 use lib.ListN.{length, length-take, length-drop}
 use Rattle.theory.specs.Lists.{tabulate, over}
@@ -44,11 +44,15 @@ array-read-number c = omega arith
 number-requires : tie.Need-number-requires Inv-loop μ-loop
 number-requires c κs = tt
 
+-- a lot's line has room
+room : (a : tie.In-loop Inv-loop μ-loop) → 13 * a .before .loop .j + 13 ≤ length (a .before .loop .out)
+room a = omega (arith, long (a .before), a .before .before .before .pre .1)
+
 sub-put-line : tie.Need-sub-put-line Inv-loop μ-loop
-sub-put-line c = let a = c .before .before in omega (arith, long a, a .before .before .pre .1)
+sub-put-line c = omega (arith, room (c .before))
 
 part-put-line-start : tie.Need-part-put-line-start Inv-loop μ-loop
-part-put-line-start c = let a = c .before .before in omega (arith, long a, a .before .before .pre .1)
+part-put-line-start c = omega (arith, room (c .before))
 
 part-put-line-end : tie.Need-part-put-line-end Inv-loop μ-loop
 part-put-line-end c = omega arith
@@ -61,7 +65,7 @@ put-line-requires c κs =
     let o = c .before .before in
     let a = o .before .before in
     let s = a .before .before in (
-      simp (length-take, length-drop) (omega (arith, long a, s .pre .1)),
+      simp (length-take, length-drop) (omega (arith, room (o .before))),
       two-small 1000000 _ _ (omega (arith, s .pre .0)) (omega (arith, o .number .ensures .most)),
     )
 
