@@ -31,7 +31,7 @@ use Rattle.writing.specs.Answers.{writeFault, WriteSays, orTooLarge, typ
 use Rattle.writing.specs.Answers.{sheetText, sheetTextOf}
 use Rattle.writing.specs.Claims.{ListQuestion}
 use Rattle.writing.proofs.Questions.{write-place, write-all-yes}
-use Rattle.writing.proofs.Answers.{sheet-length, told-number, told-place, told-refused, told-written}
+use Rattle.writing.proofs.Answers.{sheet-length, write-told}
 use Rattle.writing.proofs.Limits.{count-small, bytes-small, room-alike, write-cut}
 
 pub first-length : (b : List ℕ) → length (firstTyped b) ≡ 91
@@ -98,14 +98,14 @@ module _ (b : List ℕ) where
     says = subst₂ (λ i j. WriteSays i j l zeros o′ w) ex ey told
 
     pub refused-long : w .number ≢ 0 → length o′ ≡ 559
-    refused-long h = ap length (told-refused m n l zeros o′ w says h .1) ∙ length-replicate {A = ℕ} 559 0
+    refused-long h = ap length (write-told says .refused h .1) ∙ length-replicate {A = ℕ} 559 0
 
     pub place-none : w .place ≡ 0
-    place-none = told-place m n l zeros o′ w says
+    place-none = write-told says .place
 
     number-is : w .number ≡ f .number
     number-is =
-        told-number m n l zeros o′ w says
+        write-told says .number
         ∙ ap (λ k. writeFault m n l k .number) (length-replicate {A = ℕ} 559 0)
         ∙ ap (λ us. writeFault m n us 559 .number) el ∙ ap (λ (g : Fault). g .number) (write-cut m n vs 559)
 
@@ -114,7 +114,7 @@ module _ (b : List ℕ) where
         let yes-to = write-all-yes m n vs 559 .0 (sym number-is ∙ z) in
         let few = count-small m n (yes-to 0 .1) (yes-to 1 .1) in
         let whole : l ≡ vs = el ∙ take-all 91 vs (omega (arith, yes-to 2)) in
-        let (long, bytes) = told-written m n l zeros o′ w says z in
+        let (long, bytes) = write-told says .written z in
         ap₂ textIn bytes long
         ∙ ap (λ us. textIn (over (sheetBytes m n us) zeros) (length (sheetBytes m n us))) whole
         ∙ text-of (sheetBytes m n vs) (accepted-text (sym number-is ∙ z))
@@ -122,7 +122,7 @@ module _ (b : List ℕ) where
     pub text-refused : w .number ≢ 0 → (o″ : List ℕ) → o″ ≡ over (line (w .number) (w .place)) o′ →
         textIn o″ 13 ≡ sheetTextOf b
     text-refused h o″ e =
-        let kept = told-refused m n l zeros o′ w says h .1 in
+        let kept = write-told says .refused h .1 in
         ap₂ textIn
         (e ∙ ap (over (line (w .number) (w .place))) kept ∙ ap₂ (λ i j. over (line i j) zeros) number-is place-none)
         (sym (line-length (f .number ∷ 0 ∷ [])))
@@ -133,15 +133,15 @@ module _ (b : List ℕ) where
       × (r .number ≢ 0 → sheetText b ≡ line (r .number) (r .place))
   text-says o o′ r long says =
       let same : r .number ≡ f .number =
-      told-number m n vs o o′ r says ∙ ap (λ (g : Fault). g .number) (room-alike m n vs (length o) long) in (
+      write-told says .number ∙ ap (λ (g : Fault). g .number) (room-alike m n vs (length o) long) in (
         λ z.
-            let (length-is, bytes) = told-written m n vs o o′ r says z in
+            let (length-is, bytes) = write-told says .written z in
             let yes-to = write-all-yes m n vs 559 .0 (sym same ∙ z) in
             let is = accepted-text (sym same ∙ z) in (
               is ∙ sym (ap (take (r .length)) bytes ∙ take-at (sheetBytes m n vs) _ (r .length) (sym length-is)),
               rw is (rw (sheet-length m n vs) (at-least m n (yes-to 0 .0) (yes-to 1 .0))),
             ),
-        λ h. refused-text (λ z. h (same ∙ z)) ∙ ap₂ line (sym same) (sym (told-place m n vs o o′ r says)),
+        λ h. refused-text (λ z. h (same ∙ z)) ∙ ap₂ line (sym same) (sym (write-told says .place)),
       )
     where
       at-least : (m n : ℕ) → 1 ≤ m → 1 ≤ n → 20 ≤ 13 + m * lineLength n
