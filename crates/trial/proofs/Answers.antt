@@ -9,12 +9,12 @@ use Prim.Native.Nat.{ℕ, zero, suc, _+_, _-_, _*_, _^_, _≤_, _<_}
 use native.Mathlib.Omega.{arith}
 use native.Mathlib.Decide.{decLe}
 use lib.ListN.{length}
-use borrow.Author.Tests.{eq-eqb, ne-eqb, le-leb, lt-leb}
+use borrow.Author.Tests.{ne-eqb, le-leb, lt-leb}
 use Rattle.theory.specs.Sums.{pick, when}
 use Rattle.theory.specs.Lists.{over}
 use Rattle.sheet.specs.declared.Fault.{Fault}
 use Rattle.sheet.specs.Sheets.{lineLength}
-use Rattle.sheet.specs.Questions.{fault, accepts, ask, between}
+use Rattle.sheet.specs.Questions.{fault, ask, between}
 use Rattle.sheet.proofs.Faults.{between-means}
 use Rattle.writing.specs.declared.Wrote.{Wrote}
 use Rattle.writing.specs.Lists.{sheetBytes}

@@ -3,25 +3,26 @@
 -- it is never long (`text-longest`, `text-within`). Assumes nothing.
 use mathlib.Core.Path.{_≡_, refl, sym, ap, ap₂, subst₂, _∙_}
 use mathlib.Core.Logic.{_≢_}
-use mathlib.Core.List.{List, [], _∷_, _++_}
+use mathlib.Core.List.{List, [], _∷_}
 use Prim.Native.Nat.{ℕ, zero, suc, min, _+_, _-_, _*_, _/_, _^_, _≤_, _<_}
 use native.Mathlib.Nat.{pow-le-pow-right}
 use native.Mathlib.Omega.{arith}
 use native.Mathlib.Decide.{ℕ-discrete, decLe}
 use lib.Dec.{lit<}
-use lib.ListN.{length, take, drop, getD, replicate, length-replicate, length-drop, take-append-drop}
-use lib.Seq.{take-all, take-at, drop-at, drop-drop, ext-getD}
+use lib.ListN.{length, take, drop, getD, replicate, length-replicate}
+use lib.Seq.{take-all, take-at, ext-getD}
 use borrow.Author.Tests.{eq-eqb, ne-eqb}
 use Rattle.theory.specs.Sums.{pick}
 use Rattle.theory.specs.Lists.{tabulate, over}
 use Rattle.theory.proofs.Over.{over-long}
-use Rattle.theory.proofs.Lists.{tabulate-at, tabulate-length, tabulate-take, tabulate-shift}
+use Rattle.theory.proofs.Lists.{tabulate-at, tabulate-length, tabulate-take}
 use Rattle.numbers.proofs.Numbers.{product-small}
 use Rattle.fields.specs.declared.Field.{Field}
 use Rattle.fields.specs.declared.Field.the-variants.{Number, Faulty}
 use Rattle.fields.specs.Fields.{columns, fieldsOf, lineOf, fieldAt}
 use Rattle.fields.proofs.Canonical.{field-canonical}
-use Rattle.fields.proofs.Lines.{columns-length, fields-length, line-length}
+use Rattle.fields.proofs.Lines.{fields-length, line-length}
+use Rattle.fields.proofs.Listed.{listed-read, fields-listed}
 use Rattle.sheet.specs.declared.Fault.{Fault}
 use Rattle.sheet.specs.Sheets.{lineLength}
 use Rattle.writing.specs.declared.Wrote.{Wrote}
@@ -173,23 +174,8 @@ text-within b r e =
     )
 
 -- numbers in fields are read as they are
-pub field-in : (l : List ℕ) (k : ℕ) → k < length l →
-    drop (6 * k) (fieldsOf l) ≡ columns 6 (getD l k 0) ++ fieldsOf (drop (suc k) l)
-field-in [] k h = absurd (omega arith)
-field-in (v ∷ l) zero h = refl
-field-in (v ∷ l) (suc k) h =
-    let six : 6 * suc k ≡ 6 + 6 * k = omega arith in
-    ap (λ j. drop j (fieldsOf (v ∷ l))) six ∙ sym (drop-drop (6 * k) 6 (fieldsOf (v ∷ l)))
-    ∙ ap (drop (6 * k)) (drop-at (columns 6 v) (fieldsOf l) 6 (columns-length 6 v)) ∙ field-in l k (omega arith)
-
 typed-in : (l : List ℕ) (k : ℕ) → k < length l → getD l k 0 ≤ 999999 → typed (fieldsOf l) k ≡ getD l k 0
-typed-in l k h small =
-    ap orTooLarge (field-canonical (fieldsOf l) (6 * k) (getD l k 0) .1 (
-      omega (arith, fields-length l),
-      small,
-      ap (take 6) (field-in l k h)
-          ∙ take-at (columns 6 (getD l k 0)) (fieldsOf (drop (suc k) l)) 6 (columns-length 6 (getD l k 0)),
-    ))
+typed-in l k h small = ap orTooLarge (listed-read l k h small)
 
 pub typed-fields : (m n : ℕ) (vs : List ℕ) → ((k : ℕ) → getD (m ∷ n ∷ vs) k 0 ≤ 999999) →
     let b = fieldsOf (m ∷ n ∷ vs) in (typed b 0 ≡ m) × (typed b 1 ≡ n) × (typedList b ≡ vs)
@@ -211,18 +197,6 @@ typed-fields m n vs small =
 good-field : (f : Field) → orTooLarge f ≤ 9999 → f ≡ Number (orTooLarge f)
 good-field (Number v) h = refl
 good-field (Faulty at) h = absurd (omega arith)
-
-pub fields-all : (k : ℕ) (b : List ℕ) (g : ℕ → ℕ) → length b ≡ 6 * k →
-    ((j : ℕ) → j < k → take 6 (drop (6 * j) b) ≡ columns 6 (g j)) → b ≡ fieldsOf (tabulate k 0 g)
-fields-all zero [] g long each = refl
-fields-all zero (x ∷ b) g long each = absurd (omega arith)
-fields-all (suc k) b g long each =
-    let rest : drop 6 b ≡ fieldsOf (tabulate k 1 g) =
-    fields-all k (drop 6 b) (λ j. g (suc j)) (rw length-drop (omega arith)) (λ j h.
-    let six : 6 + 6 * j ≡ 6 * suc j = omega arith in
-    ap (take 6) (drop-drop (6 * j) 6 b ∙ ap (λ i. drop i b) six) ∙ each (suc j) (omega arith))
-    ∙ ap fieldsOf (sym (tabulate-shift k 0 g)) in
-    sym (take-append-drop 6 b) ∙ ap₂ _++_ (each 0 (omega arith)) rest
 
 module _ (b : List ℕ) (long : 13 < length (sheetText b)) where
   abbrev l : List ℕ
@@ -270,7 +244,7 @@ module _ (b : List ℕ) (long : 13 < length (sheetText b)) where
 
   pub text-fields : (b ≡ fieldsOf l) × ((k : ℕ) → getD l k 0 ≤ 9999)
   text-fields = (
-    fields-all (suc (suc many)) b (typed b) (omega (arith, some, each (1 + many) (omega arith) .0))
+    fields-listed (suc (suc many)) b (typed b) (omega (arith, some, each (1 + many) (omega arith) .0))
         (λ j h. each j (omega arith) .1),
     small,
   )
