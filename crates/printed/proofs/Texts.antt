@@ -14,7 +14,7 @@ use borrow.Author.Tests.{eq-eqb, ne-eqb}
 use Rattle.theory.specs.Sums.{pick}
 use Rattle.theory.specs.Lists.{over}
 use Rattle.theory.proofs.Tests.{by-test}
-use Rattle.theory.proofs.Over.{over-long}
+use Rattle.printing.proofs.Lines.{front-within}
 use Rattle.fields.proofs.Lines.{line-length}
 use Rattle.sheet.specs.Sheets.{Sheet, sheetOf}
 use Rattle.sheet.specs.Questions.{accepts, onward, sheetFault}
@@ -97,13 +97,7 @@ text-told b o o′ t t′ r says long room zeros =
 -- its length lies within its bytes
 pub text-within : (b : List ℕ) (r : Text) → r ≡ textOf b → r .length ≤ length (r .bytes)
 text-within b r e =
-    omega (
-      arith,
-      longest b,
-      ap (λ (x : Text). x .length) e,
-      ap (λ (x : Text). length (x .bytes)) e,
-      over-long (printedSale b) (replicate 227 0) (omega (arith, longest b)),
-    )
+    subst (λ (x : Text). x .length ≤ length (x .bytes)) (sym e) (front-within (printedSale b) 227 (longest b))
 
 -- demand 1
 refused-print : (b o o′ : List ℕ) (r : Sale) → SaleSays b o o′ r → r .number ≢ 0 →

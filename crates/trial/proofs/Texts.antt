@@ -1,7 +1,7 @@
 -- What `text_of` answers, of a sheet that is written (`lines-written`) or refused (`lines-refused`); what is printed of
 -- four numbers is what is written of them (`text-says`), and of other bytes nothing is (`text-typed`); it is never long
 -- (`text-longest`, `text-within`). Assumes nothing.
-use mathlib.Core.Path.{_≡_, sym, ap, ap₂, _∙_}
+use mathlib.Core.Path.{_≡_, sym, ap, ap₂, subst, _∙_}
 use mathlib.Core.Logic.{_≢_}
 use mathlib.Core.Bool.{true, false}
 use mathlib.Core.List.{List, [], _∷_}
@@ -13,9 +13,9 @@ use lib.Seq.{take-at}
 use borrow.Author.Tests.{eq-eqb, ne-eqb}
 use Rattle.theory.specs.Sums.{pick}
 use Rattle.theory.specs.Lists.{over}
-use Rattle.theory.proofs.Over.{over-long}
 use Rattle.theory.proofs.Tests.{by-test}
 use Rattle.fields.specs.Fields.{lineOf, numberAt}
+use Rattle.printing.proofs.Lines.{front-within}
 use Rattle.fields.proofs.Lines.{line-length}
 use Rattle.sheet.specs.declared.Fault.{Fault}
 use Rattle.sheet.specs.Sheets.{lineLength}
@@ -150,8 +150,4 @@ text-says b N m n top typed o o′ r long says =
 -- what is answered lies within its bytes
 pub text-within : (b : List ℕ) (r : SheetText) → r ≡ trialTextOf b → r .length ≤ length (r .bytes)
 text-within b r e =
-    let long = ap (λ (x : SheetText). x .length) e in
-    let bytes = ap (λ (x : SheetText). length (x .bytes)) e in
-    let zeros = length-replicate {A = ℕ} 559 0 in
-    let whole = over-long (trialText b) (replicate 559 0) (omega (arith, text-longest b, zeros)) in
-    omega (arith, text-longest b, long, bytes, whole, zeros)
+    subst (λ (x : SheetText). x .length ≤ length (x .bytes)) (sym e) (front-within (trialText b) 559 (text-longest b))

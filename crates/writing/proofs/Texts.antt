@@ -1,7 +1,7 @@
 -- What `sheet_text` answers, of a sheet that is written (`text-written`) or refused (`text-refused`); what is printed
 -- of numbers is what is written of them (`text-says`, `typed-fields`), and no other bytes are written (`text-fields`);
 -- it is never long (`text-longest`, `text-within`). Assumes nothing.
-use mathlib.Core.Path.{_≡_, refl, sym, ap, ap₂, subst₂, _∙_}
+use mathlib.Core.Path.{_≡_, refl, sym, ap, ap₂, subst, subst₂, _∙_}
 use mathlib.Core.Logic.{_≢_}
 use mathlib.Core.List.{List, [], _∷_}
 use Prim.Native.Nat.{ℕ, zero, suc, min, _+_, _-_, _*_, _/_, _^_, _≤_, _<_}
@@ -14,13 +14,13 @@ use lib.Seq.{take-all, take-at, ext-getD}
 use borrow.Author.Tests.{eq-eqb, ne-eqb}
 use Rattle.theory.specs.Sums.{pick}
 use Rattle.theory.specs.Lists.{tabulate, over}
-use Rattle.theory.proofs.Over.{over-long}
 use Rattle.theory.proofs.Lists.{tabulate-at, tabulate-length, tabulate-take}
 use Rattle.numbers.proofs.Numbers.{product-small}
 use Rattle.fields.specs.declared.Field.{Field}
 use Rattle.fields.specs.declared.Field.the-variants.{Number, Faulty}
 use Rattle.fields.specs.Fields.{columns, fieldsOf, lineOf, fieldAt}
 use Rattle.fields.proofs.Canonical.{field-canonical}
+use Rattle.printing.proofs.Lines.{front-within}
 use Rattle.fields.proofs.Lines.{fields-length, line-length}
 use Rattle.fields.proofs.Listed.{listed-read, fields-listed}
 use Rattle.sheet.specs.declared.Fault.{Fault}
@@ -161,17 +161,7 @@ module _ (b : List ℕ) where
 -- what is answered lies within its bytes
 pub text-within : (b : List ℕ) (r : SheetText) → r ≡ sheetTextOf b → r .length ≤ length (r .bytes)
 text-within b r e =
-    let long = ap (λ (x : SheetText). x .length) e in
-    let bytes = ap (λ (x : SheetText). length (x .bytes)) e in
-    omega (
-      arith,
-      text-longest b,
-      long,
-      bytes,
-      over-long (sheetText b) (replicate 559 0)
-          (omega (arith, text-longest b, length-replicate {A = ℕ} 559 0)),
-      length-replicate {A = ℕ} 559 0,
-    )
+    subst (λ (x : SheetText). x .length ≤ length (x .bytes)) (sym e) (front-within (sheetText b) 559 (text-longest b))
 
 -- numbers in fields are read as they are
 typed-in : (l : List ℕ) (k : ℕ) → k < length l → getD l k 0 ≤ 999999 → typed (fieldsOf l) k ≡ getD l k 0
