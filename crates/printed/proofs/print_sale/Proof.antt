@@ -5,23 +5,11 @@ use Rattle.printed.proofs.Printing.{print-refused, print-settled}
 use Rattle.printed.proofs.print_sale.Statement.{statement}
 use Rattle.printed.proofs.print_sale.Tie as tie
 
-run-sale-requires : tie.Need-run-sale-requires
-run-sale-requires c κs = search needs
-
-cast-put-refusal : tie.Need-cast-put-refusal
-cast-put-refusal c = search needs
-
 put-refusal-requires : tie.Need-put-refusal-requires
 put-refusal-requires c κs =
     let s = c .before .before .before .before .before .before in
     let fit = prints-fit _ _ _ _ (s .run-sale .ensures) in
     (fit .number, fit .place)
-
-same-length : tie.Need-same-length
-same-length c = search needs
-
-same-length-2 : tie.Need-same-length-2
-same-length-2 c = search needs
 
 returns : tie.Need-returns
 returns c =
@@ -33,12 +21,6 @@ returns c =
 put-settled-requires : tie.Need-put-settled-requires
 put-settled-requires c κs = prints-fit _ _ _ _ (c .before .before .before .before .before .run-sale .ensures)
 
-same-length-3 : tie.Need-same-length-3
-same-length-3 c = search needs
-
-same-length-4 : tie.Need-same-length-4
-same-length-4 c = search needs
-
 returns-2 : tie.Need-returns-2
 returns-2 c =
     let q = c .before .before in
@@ -49,14 +31,5 @@ returns-2 c =
 pub print-sale-spec : {M : Type 1} → statement M
 print-sale-spec =
     tie.close
-    (tie.spec
-    run-sale-requires
-    cast-put-refusal
-    put-refusal-requires
-    same-length
-    same-length-2
-    returns
-    put-settled-requires
-    same-length-3
-    same-length-4
-    returns-2)
+    (tie.spec (λ c κs. search needs) (λ c. search needs) put-refusal-requires (λ c. search needs) (λ c. search needs)
+    returns put-settled-requires (λ c. search needs) (λ c. search needs) returns-2)

@@ -29,47 +29,11 @@ long a =
     lines-long f 25 (λ i. line-length (f i)) (s .args .out .now) (a .loop .i) (a .loop .out) (a .loop .inv .1)
     (omega (arith, s .pre .1, a .loop .inv .0))
 
-cast-m : tie.Need-cast-m Inv-loop μ-loop
-cast-m c = omega arith
-
-cast-n : tie.Need-cast-n Inv-loop μ-loop
-cast-n c = omega arith
-
 loop-holds : tie.Need-loop-holds Inv-loop μ-loop
 loop-holds c = (omega arith, refl)
 
-mul-at : tie.Need-mul-at Inv-loop μ-loop
-mul-at c = omega arith
-
-add-bundle-of : tie.Need-add-bundle-of Inv-loop μ-loop
-add-bundle-of c = omega arith
-
-bundle-of-requires : tie.Need-bundle-of-requires Inv-loop μ-loop
-bundle-of-requires c κs = omega arith
-
-add-price-of : tie.Need-add-price-of Inv-loop μ-loop
-add-price-of c = omega arith
-
 price-of-requires : tie.Need-price-of-requires Inv-loop μ-loop
 price-of-requires c κs = omega (arith, c .before .bundle-of .ensures .most)
-
-add-buyer : tie.Need-add-buyer Inv-loop μ-loop
-add-buyer c = omega arith
-
-cast-buyer : tie.Need-cast-buyer Inv-loop μ-loop
-cast-buyer c = omega arith
-
-mul-d : tie.Need-mul-d Inv-loop μ-loop
-mul-d c = omega arith
-
-element-copy-out-d : tie.Need-element-copy-out-d Inv-loop μ-loop
-element-copy-out-d c = omega arith
-
-mul-due : tie.Need-mul-due Inv-loop μ-loop
-mul-due c = omega arith
-
-element-copy-out-due : tie.Need-element-copy-out-due Inv-loop μ-loop
-element-copy-out-due c = omega arith
 
 -- a buyer's line has room
 room : (a : tie.In-loop Inv-loop μ-loop) → 25 * a .before .loop .i + 25 ≤ length (a .before .loop .out)
@@ -80,9 +44,6 @@ sub-put-line c = omega (arith, room (c .before .before .before .before .before))
 
 part-put-line-start : tie.Need-part-put-line-start Inv-loop μ-loop
 part-put-line-start c = omega (arith, room (c .before .before .before .before .before))
-
-part-put-line-end : tie.Need-part-put-line-end Inv-loop μ-loop
-part-put-line-end c = omega arith
 
 slice-aggregate-put-line : tie.Need-slice-aggregate-put-line Inv-loop μ-loop
 slice-aggregate-put-line c = refl
@@ -98,12 +59,6 @@ put-line-requires c κs =
       four-small 1000000 _ _ _ _ (omega (arith, s .pre .0 .buyers)) (omega (arith, p .price-of .ensures .most))
           (omega (arith, discount)) (omega (arith, payment)),
     )
-
-add-i : tie.Need-add-i Inv-loop μ-loop
-add-i c = omega arith
-
-loop-less : tie.Need-loop-less Inv-loop μ-loop
-loop-less c = omega arith
 
 loop-again : tie.Need-loop-again Inv-loop μ-loop
 loop-again c =
@@ -136,30 +91,7 @@ returns c =
 pub put-buyers-spec : {M : Type 1} → statement M
 put-buyers-spec =
     tie.close
-    (tie.spec
-    Inv-loop
-    μ-loop
-    cast-m
-    cast-n
-    loop-holds
-    mul-at
-    add-bundle-of
-    bundle-of-requires
-    add-price-of
-    price-of-requires
-    add-buyer
-    cast-buyer
-    mul-d
-    element-copy-out-d
-    mul-due
-    element-copy-out-due
-    sub-put-line
-    part-put-line-start
-    part-put-line-end
-    slice-aggregate-put-line
-    put-line-requires
-    add-i
-    loop-less
-    loop-again
-    same-length
-    returns)
+    (tie.spec Inv-loop μ-loop (λ c. omega arith) (λ c. omega arith) loop-holds (λ c. omega arith) (λ c. omega arith)
+    (λ c κs. omega arith) (λ c. omega arith) price-of-requires (λ c. omega arith) (λ c. omega arith) (λ c. omega arith)
+    (λ c. omega arith) (λ c. omega arith) (λ c. omega arith) sub-put-line part-put-line-start (λ c. omega arith)
+    slice-aggregate-put-line put-line-requires (λ c. omega arith) (λ c. omega arith) loop-again same-length returns)

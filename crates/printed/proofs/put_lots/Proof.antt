@@ -29,18 +29,6 @@ long a =
 loop-holds : tie.Need-loop-holds Inv-loop μ-loop
 loop-holds c = (omega arith, refl)
 
-mul-at : tie.Need-mul-at Inv-loop μ-loop
-mul-at c = omega arith
-
-add-lot : tie.Need-add-lot Inv-loop μ-loop
-add-lot c = omega arith
-
-cast-lot : tie.Need-cast-lot Inv-loop μ-loop
-cast-lot c = omega arith
-
-array-read-number : tie.Need-array-read-number Inv-loop μ-loop
-array-read-number c = omega arith
-
 number-requires : tie.Need-number-requires Inv-loop μ-loop
 number-requires c κs = tt
 
@@ -54,9 +42,6 @@ sub-put-line c = omega (arith, room (c .before))
 part-put-line-start : tie.Need-part-put-line-start Inv-loop μ-loop
 part-put-line-start c = omega (arith, room (c .before))
 
-part-put-line-end : tie.Need-part-put-line-end Inv-loop μ-loop
-part-put-line-end c = omega arith
-
 slice-aggregate-put-line : tie.Need-slice-aggregate-put-line Inv-loop μ-loop
 slice-aggregate-put-line c = refl
 
@@ -68,12 +53,6 @@ put-line-requires c κs =
       simp (length-take, length-drop) (omega (arith, room (o .before))),
       two-small 1000000 _ _ (omega (arith, s .pre .0)) (omega (arith, o .number .ensures .most)),
     )
-
-add-j : tie.Need-add-j Inv-loop μ-loop
-add-j c = omega arith
-
-loop-less : tie.Need-loop-less Inv-loop μ-loop
-loop-less c = omega arith
 
 loop-again : tie.Need-loop-again Inv-loop μ-loop
 loop-again c =
@@ -101,22 +80,6 @@ returns c =
 pub put-lots-spec : {M : Type 1} → statement M
 put-lots-spec =
     tie.close
-    (tie.spec
-    Inv-loop
-    μ-loop
-    loop-holds
-    mul-at
-    add-lot
-    cast-lot
-    array-read-number
-    number-requires
-    sub-put-line
-    part-put-line-start
-    part-put-line-end
-    slice-aggregate-put-line
-    put-line-requires
-    add-j
-    loop-less
-    loop-again
-    same-length
-    returns)
+    (tie.spec Inv-loop μ-loop loop-holds (λ c. omega arith) (λ c. omega arith) (λ c. omega arith) (λ c. omega arith)
+    number-requires sub-put-line part-put-line-start (λ c. omega arith) slice-aggregate-put-line put-line-requires
+    (λ c. omega arith) (λ c. omega arith) loop-again same-length returns)

@@ -25,9 +25,6 @@ put-line-requires c κs =
     let s = e .before .before in
     (omega (arith, e .if1 .left), two-small 1000000 _ _ (s .pre .0) (s .pre .1))
 
-same-length : tie.Need-same-length
-same-length c = search needs
-
 returns-2 : tie.Need-returns-2
 returns-2 c =
     let put = c .before .before in
@@ -39,4 +36,4 @@ returns-2 c =
 
 pub put-refusal-spec : {M : Type 1} → statement M
 put-refusal-spec =
-    tie.close (tie.spec returns slice-aggregate-put-line put-line-requires same-length returns-2)
+    tie.close (tie.spec returns slice-aggregate-put-line put-line-requires (λ c. search needs) returns-2)

@@ -41,12 +41,6 @@ slice-write-out-2 c =
     let room = c .before .before .before .before .before .pre .0 in
     omega (arith, room, put-long _ _ _ _ _ _ _ (c .before .before .before .loop .inv) room, c .before .before .loop-test .taken)
 
-add-k : tie.Need-add-k Inv-loop μ-loop
-add-k c = omega arith
-
-loop-less : tie.Need-loop-less Inv-loop μ-loop
-loop-less c = omega arith
-
 loop-again : tie.Need-loop-again Inv-loop μ-loop
 loop-again c =
     let l = c .before .before .before in
@@ -67,19 +61,5 @@ returns c = put-all _ _ _ _ _ _ _ (c .before .loop .inv) (c .loop-test .left)
 pub put-field-spec : {M : Type 1} → statement M
 put-field-spec =
     tie.close
-    (tie.spec
-    Inv-loop
-    μ-loop
-    loop-holds
-    has-digit-requires
-    div-out
-    cast-out
-    add-out
-    slice-write-out
-    rem-rest
-    slice-write-out-2
-    add-k
-    loop-less
-    loop-again
-    same-length
-    returns)
+    (tie.spec Inv-loop μ-loop loop-holds has-digit-requires div-out cast-out add-out slice-write-out rem-rest
+    slice-write-out-2 (λ c. omega arith) (λ c. omega arith) loop-again same-length returns)

@@ -26,12 +26,6 @@ worth-without-requires : tie.Need-worth-without-requires Inv-loop μ-loop
 worth-without-requires c κs =
     let z = c .before .before .before in (omega arith, omega arith, z .pre .2)
 
-add-j : tie.Need-add-j Inv-loop μ-loop
-add-j c = omega arith
-
-loop-less : tie.Need-loop-less Inv-loop μ-loop
-loop-less c = omega arith
-
 loop-again : tie.Need-loop-again Inv-loop μ-loop
 loop-again c =
     let l = c .before .before .before in
@@ -57,4 +51,5 @@ returns c =
 
 pub most-fewer-spec : {M : Type 1} → statement M
 most-fewer-spec =
-    tie.close (tie.spec Inv-loop μ-loop loop-holds worth-without-requires add-j loop-less loop-again returns)
+    tie.close (tie.spec Inv-loop μ-loop loop-holds worth-without-requires (λ c. omega arith) (λ c. omega arith)
+    loop-again returns)
