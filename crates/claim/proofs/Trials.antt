@@ -1,6 +1,6 @@
 -- Trial sheets: the page's draws are the generator's (`draw-same`); what `trial_sheet` answers, refused or not
 -- (`trial-claim`), that a trial sheet's sale settles (`tried`), and what is printed of four numbers (`trial-typed`,
--- `trial-untyped`). Assumes nothing.
+-- `trial-untyped`).
 use mathlib.Core.Path.{_≡_, refl, sym, ap, subst, _∙_}
 use mathlib.Core.Logic.{_≢_, _↔_, inl, inr}
 use mathlib.Core.List.{List, [], _∷_, _++_}

@@ -1,5 +1,5 @@
 -- Writing a sheet: what `write_sheet` answers, refused or not (`write-claim`), that an accepted sheet is written again
--- as it is (`rewrites`), and what is printed of numbers (`typed-text`, `untyped`). Assumes nothing.
+-- as it is (`rewrites`), and what is printed of numbers (`typed-text`, `untyped`).
 use mathlib.Core.Path.{_≡_, refl, sym, ap, subst, _∙_}
 use mathlib.Core.Logic.{_≢_, _↔_, inl, inr}
 use mathlib.Core.List.{List, [], _∷_, _++_}

@@ -1,5 +1,5 @@
--- Numbers in fields, one after another: each is read as it is (`listed-read`), and bytes that have a number's columns in
--- every field are such a list (`fields-listed`).
+-- Numbers in fields, one after another: each is read as it is (`listed-read`), and bytes that have a number's columns
+-- in every field are such a list (`fields-listed`).
 use mathlib.Core.Path.{_≡_, refl, sym, ap, ap₂, _∙_}
 use mathlib.Core.List.{List, [], _∷_, _++_}
 use Prim.Native.Nat.{ℕ, zero, suc, _+_, _*_, _≤_, _<_}

@@ -1,5 +1,5 @@
--- A text put into a buffer, or not (`puts-whole`, `puts-none`), and the three parts of a settled sale, one after another
--- (`all-put`), or none of them (`all-none`).
+-- A text put into a buffer, or not (`puts-whole`, `puts-none`), and the three parts of a settled sale, one after
+-- another (`all-put`), or none of them (`all-none`).
 use mathlib.Core.Path.{_≡_, refl, sym, ap, _∙_}
 use mathlib.Core.List.{List, [], _∷_, _++_, append-assoc}
 use Prim.Native.Nat.{ℕ, _+_, _-_, _*_, _≤_, _<_}
@@ -65,7 +65,8 @@ module _ (r : Sale) where
     parts-two : l₂ ≡ over (first ++ lotLines) o
     parts-two = over-then first lotLines o l last 25 first-length (omega (arith, lots-length)) e g
 
-    module _ (last₂ : List ℕ) (at : ℕ) (ea : at ≡ 25 + 13 * r .lots) (all : 25 + 13 * r .lots + 25 * r .buyers ≤ length o)
+    module _ (last₂ : List ℕ) (at : ℕ) (ea : at ≡ 25 + 13 * r .lots)
+        (all : 25 + 13 * r .lots + 25 * r .buyers ≤ length o)
         (h : last₂ ≡ over buyerLines (take (length l₂ - at) (drop at l₂))) where
       parts-all : putMid at (length l₂ - at) l₂ last₂ ≡ over (settledText r) o
       parts-all =

@@ -47,14 +47,18 @@ printed r = pick (eqb (r .number) 0) (settledText r) (refusedText (r .number) (r
 
 -- what is printed of a sheet whose sale has all the record that it needs: refused by questions 1 to 8 alone
 unfoldable pub printedSale : List ℕ → List ℕ
-printedSale b = let f = sheetFault b in onward (accepts f) (λ _. settledText (settledSale (sheetOf b))) (refusedText (f .number) (f .place))
+printedSale b =
+    let f = sheetFault b in
+    onward (accepts f) (λ _. settledText (settledSale (sheetOf b))) (refusedText (f .number) (f .place))
 
--- a text put at the front of a buffer o: its length is answered; or 0, where it has no room, and the buffer keeps its bytes
+-- a text put at the front of a buffer o: its length is answered; or 0, where it has no room, and the buffer keeps its
+-- bytes
 pub record Puts (text o o′ : List ℕ) (r : ℕ) : Type 0 where
   pub whole : length text ≤ length o → (r ≡ length text) × (o′ ≡ over text o)
   pub none : length o < length text → (r ≡ 0) × (o′ ≡ o)
 
--- an answer whose numbers all fit six columns, of at most six buyers and four lots; prices of the buyers and bundles there are
+-- an answer whose numbers all fit six columns, of at most six buyers and four lots; prices of the buyers and bundles
+-- there are
 pub record Printable (r : Sale) : Type 0 where
   pub number : r .number < 1000000
   pub place : r .place < 1000000

@@ -6,7 +6,8 @@ ghost use lib.ListN.{length};
 ghost use Rattle.theory.specs.Lists.{tabulate, over};
 ghost use Rattle.numbers.specs.Numbers.{Is};
 ghost use Rattle.fields.specs.Fields.{lineOf, linesOf};
-ghost use Rattle.printed.specs.Printed.{lotLine, buyerLine, settledText, Printable, Puts, PrintSays, textOf, Prints};
+ghost use Rattle.printed.specs.Printed.{lotLine, buyerLine, settledText, Printable, Puts, PrintSays, textOf};
+ghost use Rattle.printed.specs.Printed.{Prints};
 use printing::put_line;
 use sale::Sale;
 
@@ -94,7 +95,8 @@ fn put_settled(out: &mut [u8], r: Sale) -> usize
     end
 }
 
-// Runs the sale of a sheet, with a record as `run_sale` has it, and prints its answer: the length of what is printed, or 0 where it has no room.
+// Runs the sale of a sheet, with a record as `run_sale` has it, and prints its answer: the length of what is printed,
+// or 0 where it has no room.
 pub fn print_sale(sheet: &[u8], log: &mut [u8], out: &mut [u8]) -> usize
     ensures { λ r. ⌜ PrintSays (now (sheet .entry)) (now (log .entry)) (now (log .exit)) (now (out .entry)) (now (out .exit)) r ⌝ }
 {

@@ -1,6 +1,7 @@
 -- Questions in the order in which they are asked, each with a number of its own: `FirstNo` says which of them gets the
 -- first "no", `first-asked` and `first-each` put one question more in front. The number is a question's exactly if that
--- is the first (`first-iff`, `first-no`), and 0 exactly if there is none (`first-none`, `first-number`). Assumes numbers above 0 that differ.
+-- is the first (`first-iff`, `first-no`), and 0 exactly if there is none (`first-none`, `first-number`). Assumes
+-- numbers above 0 that differ.
 use mathlib.Core.Path.{_≡_, refl, sym, ap, subst, _∙_}
 use mathlib.Core.Logic.{_↔_, _⊎_, inl, inr}
 use mathlib.Core.Bool.{Bool, true}

@@ -1,6 +1,6 @@
 -- Bytes that are four numbers in six columns each, the first of them a sheet's number: what `is_asked` finds on each
 -- way through (`not-long`, `not-good`, `all-good`); that these bytes and no others are asked, and what their numbers
--- are (`typed-asked`, `asked-typed`). Assumes nothing.
+-- are (`typed-asked`, `asked-typed`).
 use mathlib.Core.Path.{_≡_, refl, sym, ap, _∙_}
 use mathlib.Core.Logic.{_≢_}
 use mathlib.Core.Bool.{Bool, true, false}

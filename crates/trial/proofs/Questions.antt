@@ -1,7 +1,7 @@
 -- The questions put to a trial's numbers: which of them gets the first "no" (`trial-first-no`, `trial-all-yes`,
 -- `trial-numbers`); the number is at most 11 (`trial-range`), the place 0 (`trial-place-none`); from 559 bytes on the
 -- buffer makes no difference (`room-alike`, `never-eleven`), and numbers above 999,999 are refused as that is
--- (`trial-capped`). Assumes nothing.
+-- (`trial-capped`).
 use mathlib.Core.Path.{_≡_, refl, sym, ap, _∙_}
 use mathlib.Core.Logic.{_≢_, _↔_, _⊎_}
 use mathlib.Core.Bool.{true}

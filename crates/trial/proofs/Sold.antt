@@ -1,5 +1,5 @@
 -- What is written is accepted, and read as the worths that are drawn (`trial-accepted`); it is sold with a record of
--- question 9's sum (`trial-sold`), which is at most 59,994 (`trial-record`). Assumes nothing.
+-- question 9's sum (`trial-sold`), which is at most 59,994 (`trial-record`).
 use mathlib.Core.Path.{_≡_, refl, sym, ap, _∙_}
 use mathlib.Core.Bool.{_&&_}
 use mathlib.Core.List.{List}

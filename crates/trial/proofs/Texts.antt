@@ -1,6 +1,6 @@
 -- What `text_of` answers, of a sheet that is written (`lines-written`) or refused (`lines-refused`); what is printed of
 -- four numbers is what is written of them (`text-says`), and of other bytes nothing is (`text-typed`); it is never long
--- (`text-longest`, `text-within`). Assumes nothing.
+-- (`text-longest`, `text-within`).
 use mathlib.Core.Path.{_≡_, sym, ap, ap₂, subst, _∙_}
 use mathlib.Core.Logic.{_≢_}
 use mathlib.Core.Bool.{true, false}

@@ -1,4 +1,4 @@
--- All that is claimed of trial sheets. Assumes nothing.
+-- All that is claimed of trial sheets.
 use mathlib.Core.Path.{refl}
 use Rattle.trial.specs.Claims.{Trials}
 use Rattle.trial.proofs.Tables.{trial-worth}

@@ -1,5 +1,5 @@
 -- The fault of a list, by the question that gets the first "no" (`write-first-no`, `write-all-yes`, `write-numbers`);
--- its number is at most 11 (`write-range`), and its place is 0 (`write-place`). Assumes nothing.
+-- its number is at most 11 (`write-range`), and its place is 0 (`write-place`).
 use mathlib.Core.Path.{_≡_, refl, sym, ap}
 use mathlib.Core.Logic.{_≢_, _⊎_, _↔_}
 use mathlib.Core.Bool.{true}

@@ -1,6 +1,6 @@
 -- What `sheet_text` answers, of a sheet that is written (`text-written`) or refused (`text-refused`); what is printed
 -- of numbers is what is written of them (`text-says`, `typed-fields`), and no other bytes are written (`text-fields`);
--- it is never long (`text-longest`, `text-within`). Assumes nothing.
+-- it is never long (`text-longest`, `text-within`).
 use mathlib.Core.Path.{_≡_, refl, sym, ap, ap₂, subst, subst₂, _∙_}
 use mathlib.Core.Logic.{_≢_}
 use mathlib.Core.List.{List, [], _∷_}

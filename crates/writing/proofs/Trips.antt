@@ -1,6 +1,6 @@
 -- The round trips: what is written is read as the list's table (`written-read`); a sheet's numbers are in the list's
 -- order (`in-order`), and an accepted sheet, read and written, gives its own bytes (`read-written`). The questions that
--- a list shares with a sheet are those of the sheet that it makes (`same-questions`). Assumes nothing.
+-- a list shares with a sheet are those of the sheet that it makes (`same-questions`).
 use mathlib.Core.Path.{_≡_, refl, sym, ap, ap₂, subst, _∙_}
 use mathlib.Core.Logic.{inl, inr}
 use mathlib.Core.List.{List, [], _∷_}

@@ -1,4 +1,4 @@
--- All the theorems about writing sheets (`writes-all`). Assumes nothing.
+-- All the theorems about writing sheets (`writes-all`).
 use Rattle.writing.specs.Claims.{Writes}
 use Rattle.writing.proofs.Questions.{write-first-no, write-all-yes, write-numbers}
 use Rattle.writing.proofs.Answers.{write-told}

@@ -32,7 +32,9 @@ loop-again c =
     let z = l .before .before .args in
     let p = c .before .worth-without in
     let f = worthWithout (rowWorth (z .row .now)) (z .s) in
-    let next = most-more (z .n) (l .loop .j) (c .before .before .loop-test .taken) f (l .loop .most) (c .if1 .most) _ (l .loop .inv .2) in
+    let next =
+    most-more (z .n) (l .loop .j) (c .before .before .loop-test .taken) f (l .loop .most) (c .if1 .most) _
+    (l .loop .inv .2) in
     ⊎-elim
     (λ w. (omega arith, omega (arith, p .ensures .most), next (omega (arith, p .ensures .is))))
     (λ w. (omega arith, omega arith, next (omega (arith, p .ensures .is))))
