@@ -15,7 +15,8 @@ put-line-requires c κs =
     let e = c .before .before .before .before in
     let fit = e .before .before .before .before .before .pre in (
       omega (arith, e .if1 .left),
-      four-small 1000000 0 _ _ _ (omega arith) (omega (arith, fit .buyers)) (omega (arith, fit .lots)) (fit .rounds),
+      four-small 1000000 0 _ _ _ (omega arith) (omega (arith, fit .buyers)) (omega (arith, fit .lots))
+          (omega (arith, fit .rounds)),
     )
 
 put-buyers-requires : tie.Need-put-buyers-requires
