@@ -1,6 +1,6 @@
 -- Trial sheets: the page's draws are the generator's (`draw-same`); what `trial_sheet` answers, refused or not
 -- (`trial-claim`), that a trial sheet's sale settles (`tried`), and what is printed of four numbers (`trial-typed`,
--- `trial-untyped`). Assumes nothing.
+-- `trial-untyped`).
 use mathlib.Core.Path.{_≡_, refl, sym, ap, subst, _∙_}
 use mathlib.Core.Logic.{_≢_, _↔_, inl, inr}
 use mathlib.Core.List.{List, [], _∷_, _++_}
@@ -22,7 +22,7 @@ use Rattle.trial.specs.Answers.{trialFault, TrialSays, trialText, trialTextOf}
 use Rattle.trial.specs.Claims.{questionNumbers, TrialQuestion, Typed}
 use Rattle.trial.proofs.Tables.{fewer-upper, fewer-reached, trial-worth, list-worth}
 use Rattle.trial.proofs.Questions.{trial-first-no, trial-numbers, trial-range}
-use Rattle.trial.proofs.Answers.{told-number, told-place, told-refused, told-writes}
+use Rattle.trial.proofs.Answers.{trial-told, told-writes}
 use Rattle.trial.proofs.Sold.{trial-sold, trial-record}
 use Rattle.trial.proofs.Texts.{text-says, text-typed}
 use Rattle.claim.specs.Claim.{Between, line, Words, drawn, answered, after, draw}
@@ -120,16 +120,16 @@ module _ (z n top i : ℕ) (v : ℕ → ℕ) (same : (s : ℕ) → s < 2 ^ n →
 
 pub trial-claim : (z m n top : ℕ) (x x′ : List ℕ) (w : Wrote) → TrialSays z m n top x x′ w → TrialClaim z m n top x x′ w
 trial-claim z m n top x x′ w says =
-    let is = told-number z m n top x x′ w says in
+    let is = trial-told says .number in
     let l = trialList z m n top in
     record {
       refuses = λ k some.
           let (to, from) = refuses m n top (length x) k some in
           (λ e. to (sym is ∙ e), λ u. is ∙ from u);
-      place = told-place z m n top x x′ w says;
+      place = trial-told says .place;
       written = λ none.
           let (b, (y, (em, en, same, long, fits, bytes))) =
-          write-claim m n l x x′ w (told-writes z m n top x x′ w says none) .written none in (
+          write-claim m n l x x′ w (told-writes says none) .written none in (
             b,
             (
               y,
@@ -144,7 +144,7 @@ trial-claim z m n top x x′ w says =
               ),
             ),
           );
-      nothing = told-refused z m n top x x′ w says;
+      nothing = trial-told says .refused;
     }
 
 pub tried : (z m n top : ℕ) (x x′ o o′ : List ℕ) (w : Wrote) (r : Sale) → TrialSays z m n top x x′ w → w .number ≡ 0 →
@@ -162,8 +162,8 @@ trial-typed z m n top b x x′ w e low small long says =
     let typed : Typed b z m n top =
     record { bytes = fields-line b l e all-small; number = low; small = (small 0, small 1, small 2) } in
     let (_, written, refused) = text-says b z m n top typed x x′ w long says in
-    let is = told-number z m n top x x′ w says in
-    let none = told-place z m n top x x′ w says in (
+    let is = trial-told says .number in
+    let none = trial-told says .place in (
       trialText b,
       (
         refl,

@@ -1,5 +1,5 @@
 -- Writing a sheet: what `write_sheet` answers, refused or not (`write-claim`), that an accepted sheet is written again
--- as it is (`rewrites`), and what is printed of numbers (`typed-text`, `untyped`). Assumes nothing.
+-- as it is (`rewrites`), and what is printed of numbers (`typed-text`, `untyped`).
 use mathlib.Core.Path.{_≡_, refl, sym, ap, subst, _∙_}
 use mathlib.Core.Logic.{_≢_, _↔_, inl, inr}
 use mathlib.Core.List.{List, [], _∷_, _++_}
@@ -20,7 +20,7 @@ use Rattle.writing.specs.Answers.{writeFault, WriteSays, typed, typedList, shee
 use Rattle.writing.specs.Claims.{questionNumbers, ListQuestion}
 use Rattle.writing.proofs.Rows.{listed-worth}
 use Rattle.writing.proofs.Questions.{small-list, write-first-no, write-all-yes, write-numbers, write-range}
-use Rattle.writing.proofs.Answers.{sheet-length, told-number, told-place, told-refused, told-written}
+use Rattle.writing.proofs.Answers.{sheet-length, write-told}
 use Rattle.writing.proofs.Texts.{typed-fields, text-says, text-fields}
 use Rattle.claim.specs.Claim.{Between, Accepted, line, listed, Whole, Growing, Unwritten}
 use Rattle.claim.specs.Claim.Unwritten.{bad-buyers, bad-lots, bad-count, too-large, falling, no-room}
@@ -146,22 +146,22 @@ module _ (m n : ℕ) (l : List ℕ) where
 
 pub write-claim : (m n : ℕ) (l x x′ : List ℕ) (w : Wrote) → WriteSays m n l x x′ w → WriteClaim m n l x x′ w
 write-claim m n l x x′ w says =
-    let is = told-number m n l x x′ w says in
+    let is = write-told says .number in
     record {
       refuses = λ k some.
           let (to, from) = refuses m n l (length x) k some in
           (λ e. to (sym is ∙ e), λ u. is ∙ from u);
-      place = told-place m n l x x′ w says;
+      place = write-told says .place;
       written = λ z.
           let yes-to = write-all-yes m n l (length x) .0 (sym is ∙ z) in
-          let (long, bytes) = told-written m n l x x′ w says z in (
+          let (long, bytes) = write-told says .written z in (
             sheetBytes m n l,
             (
               accepted m n l (length x) yes-to,
               (refl, refl, λ i s _ _. refl, long, omega (arith, sheet-length m n l, yes-to 5), bytes),
             ),
           );
-      nothing = told-refused m n l x x′ w says;
+      nothing = write-told says .refused;
     }
 
 -- an accepted sheet's worths, listed in order
@@ -197,9 +197,9 @@ pub rewrites : (b : List ℕ) (y : Accepted b) (l x x′ : List ℕ) (w : Wrote)
     ((i s : ℕ) → Between 1 (y .m) i → s < 2 ^ y .n → listed (y .m) (y .n) l i s ≡ y .v i s) → length b ≤ length x →
     WriteSays (y .m) (y .n) l x x′ w → (w .number ≡ 0) × (w .length ≡ length b) × (x′ ≡ b ++ drop (length b) x)
 rewrites b y l x x′ w right same long says =
-    let z = told-number (y .m) (y .n) l x x′ w says
+    let z = write-told says .number
     ∙ write-all-yes (y .m) (y .n) l (length x) .1 (asked b y l right same (length x) long) in
-    let (length-is, bytes) = told-written (y .m) (y .n) l x x′ w says z in
+    let (length-is, bytes) = write-told says .written z in
     let e = sym (same-bytes b y l right same) in
     (z, length-is ∙ ap length e, bytes ∙ ap (λ c. c ++ drop (length c) x) e)
 
@@ -222,8 +222,8 @@ typed-text m n l b x x′ w e small long says =
     let said : WriteSays (typed b 0) (typed b 1) (typedList b) x x′ w =
     rw (is, m-is, n-is, l-is) says in
     let (written, refused) = text-says b x x′ w long said in
-    let low = told-number m n l x x′ w says in
-    let none = told-place m n l x x′ w says in (
+    let low = write-told says .number in
+    let none = write-told says .place in (
       sheetText b,
       (
         refl,

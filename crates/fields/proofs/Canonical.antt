@@ -1,5 +1,5 @@
 -- A field says v exactly where its six columns are those in which v is written (`field-canonical`).
--- Before the last k digits of w the number so far is w / 10 ^ k, and they are the digits of w % 10 ^ k. Assumes nothing.
+-- Before the last k digits of w the number so far is w / 10 ^ k, and they are the digits of w % 10 ^ k.
 use mathlib.Core.Path.{_≡_, refl, sym, ap, _∙_}
 use mathlib.Core.Logic.{_↔_}
 use mathlib.Core.List.{List, [], _∷_}
@@ -25,11 +25,13 @@ digits-read at (suc k) w =
     digit-late at (w / 10 ^ suc k) (w % 10 ^ suc k / 10 ^ k) (digits k (w % 10 ^ suc k % 10 ^ k)) (next-small k w)
     ∙ rw (next-digit k w, other-digits k w) (digits-read at k w)
 
-digits-written : (at v w : ℕ) (l : List ℕ) → digitsFrom at v l ≡ Number w → (v ≡ w / 10 ^ length l) × (l ≡ digits (length l) (w % 10 ^ length l))
+digits-written : (at v w : ℕ) (l : List ℕ) → digitsFrom at v l ≡ Number w →
+    (v ≡ w / 10 ^ length l) × (l ≡ digits (length l) (w % 10 ^ length l))
 digits-written at v w [] = λ e. let f : v ≡ w = cc in (omega arith, refl)
 digits-written at v w (b ∷ bs) =
     let k = length bs in
-    by-class (λ b. digitsFrom at v (b ∷ bs) ≡ Number w → (v ≡ w / 10 ^ suc k) × (b ∷ bs ≡ digits (suc k) (w % 10 ^ suc k))) b
+    by-class (λ b. digitsFrom at v (b ∷ bs) ≡ Number w →
+    (v ≡ w / 10 ^ suc k) × (b ∷ bs ≡ digits (suc k) (w % 10 ^ suc k))) b
     no-number
     (λ d h e.
     let (before, same) = digits-written at (10 * v + d) w bs (sym (digit-late at v d bs h) ∙ e) in
@@ -48,20 +50,25 @@ columns-read at zero zero h = refl
 columns-read at zero (suc w) h = full-read at 0 (suc w) (omega arith) h
 columns-read at (suc k) w h =
     by-test (ltb w (10 ^ suc k))
-    (λ e. let small = ltb-true w (10 ^ suc k) e in ap (fieldFrom at) (columns-blank (suc k) w (omega arith) small) ∙ columns-read at k w small)
+    (λ e. let small = ltb-true w (10 ^ suc k) e in ap (fieldFrom at) (columns-blank (suc k) w (omega arith) small)
+    ∙ columns-read at k w small)
     (λ e. full-read at (suc k) w (ltb-false w (10 ^ suc k) e) h)
 
 -- these columns are not none, and those in which w is written
 abbrev Columns : ℕ → List ℕ → Type 0
 Columns w l = (1 ≤ length l) × (w < 10 ^ length l) × (l ≡ columns (length l) w)
 
-first-written : (at w d : ℕ) (bs : List ℕ) → d < 10 → fieldFrom at ((48 + d) ∷ bs) ≡ Number w → Columns w ((48 + d) ∷ bs)
+first-written : (at w d : ℕ) (bs : List ℕ) → d < 10 → fieldFrom at ((48 + d) ∷ bs) ≡ Number w →
+    Columns w ((48 + d) ∷ bs)
 first-written at w zero [] h e = let z : 0 ≡ w = cc in rw (← z) (omega arith, omega arith, refl)
 first-written at w zero (c ∷ cs) h e = no-number e
 first-written at w (suc d) bs h e =
     let k = length bs in
-    let (first, same) = digits-written at (suc d) w bs (sym (digit-first at (suc d) bs (omega arith) h) ∙ e) in
-    (omega arith, digit-small k w .0 (omega arith), rw (columns-full k w (digit-some k w .0 (omega arith)), ← first) (ap (λ l. (48 + suc d) ∷ l) same))
+    let (first, same) = digits-written at (suc d) w bs (sym (digit-first at (suc d) bs (omega arith) h) ∙ e) in (
+      omega arith,
+      digit-small k w .0 (omega arith),
+      rw (columns-full k w (digit-some k w .0 (omega arith)), ← first) (ap (λ l. (48 + suc d) ∷ l) same),
+    )
 
 columns-written : (at w : ℕ) (l : List ℕ) → fieldFrom at l ≡ Number w → Columns w l
 columns-written at w [] = no-number
@@ -74,7 +81,8 @@ columns-written at w (b ∷ bs) =
     (λ d. first-written at w d bs)
     (λ c e. no-number (rw (fieldFrom, c) at e))
 
-pub field-canonical : (s : List ℕ) (at v : ℕ) → (fieldAt at s ≡ Number v) ↔ ((at + 6 ≤ length s) × (v ≤ 999999) × (take 6 (drop at s) ≡ columns 6 v))
+pub field-canonical : (s : List ℕ) (at v : ℕ) →
+    (fieldAt at s ≡ Number v) ↔ ((at + 6 ≤ length s) × (v ≤ 999999) × (take 6 (drop at s) ≡ columns 6 v))
 field-canonical s at v = (
   λ e. by-test (ltb (length s) (at + 6)) (λ t. no-number (rw t at e)) (λ t.
       let room = ltb-false (length s) (at + 6) t in

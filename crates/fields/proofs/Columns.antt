@@ -1,5 +1,5 @@
 -- The loop over a field's columns: what it knows after some of them (`SoFar`), with a blank and with a digit more, what
--- it answers, and the field by its answer for six columns (`field-running`). Assumes nothing.
+-- it answers, and the field by its answer for six columns (`field-running`).
 use mathlib.Core.Path.{_≡_, refl, _∙_}
 use mathlib.Core.Bool.{Bool, true, false, _||_, or-true}
 use mathlib.Core.List.{List}

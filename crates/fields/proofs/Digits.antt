@@ -1,6 +1,6 @@
 -- Digits by division: the number up to a column (`digit-small`, `digit-some`), and one more of the last digits
 -- (`next-small`, `next-digit`, `other-digits`). A number in columns: after a blank (`columns-blank`), with all its
--- digits (`columns-full`), and each column by itself (`columns-each`). Assumes nothing.
+-- digits (`columns-full`), and each column by itself (`columns-each`).
 use mathlib.Core.Path.{_≡_, refl, sym, ap, ap₂, _∙_}
 use mathlib.Core.Logic.{_↔_}
 use mathlib.Core.Bool.{_&&_}

@@ -1,6 +1,6 @@
 -- Reading a field column by column. Where a reading stands is a flag, whether a digit was seen, and the number so far
 -- (`scan`). Offers the classes of bytes, which of them break rule 2.2 (`rule-blank`, ..), what each does to a reading
--- (`column-goes`, `column-faults`), and the bound of a number with so many digits. Assumes nothing.
+-- (`column-goes`, `column-faults`), and the bound of a number with so many digits.
 use mathlib.Core.Path.{_≡_, refl, sym, ap, subst, _∙_}
 use mathlib.Core.Bool.{Bool, true, false, not, _&&_, _||_, or-true}
 use mathlib.Core.List.{List, [], _∷_}
@@ -27,7 +27,13 @@ pub class-low : (b : ℕ) → b < 48 → (b ≡ 32 → ⊥) → classOf b ≡ Fo
 class-low b h n = rw (ne-eqb b 32 n, ne-eqb b 48 (λ e. omega arith), lt-leb 49 b (omega arith))
 
 pub class-high : (b : ℕ) → 58 ≤ b → classOf b ≡ Foreign
-class-high b h = rw (ne-eqb b 32 (λ e. omega arith), ne-eqb b 48 (λ e. omega arith), le-leb 49 b (omega arith), lt-leb b 57 (omega arith))
+class-high b h =
+    rw (
+      ne-eqb b 32 (λ e. omega arith),
+      ne-eqb b 48 (λ e. omega arith),
+      le-leb 49 b (omega arith),
+      lt-leb b 57 (omega arith),
+    )
 
 -- a byte is a blank, a decimal digit, or foreign
 pub by-class : (P : ℕ → Type 0) (b : ℕ) → P 32 → ((d : ℕ) → d < 10 → P (48 + d)) → (classOf b ≡ Foreign → P b) → P b
@@ -145,12 +151,15 @@ pub six-long : (s : List ℕ) (at : ℕ) → at + 6 ≤ length s → length (tak
 six-long s at h = simp (length-take, length-drop) (omega arith)
 
 -- what reading a field answers where six bytes are left, and where fewer are
-pub six-left : (s : List ℕ) (at : ℕ) (f : Field) → at + 6 ≤ length s → f ≡ fieldFrom at (take 6 (drop at s)) → record { next = at + 6; field = f } ≡ fieldRead s at
+pub six-left : (s : List ℕ) (at : ℕ) (f : Field) → at + 6 ≤ length s → f ≡ fieldFrom at (take 6 (drop at s)) →
+    record { next = at + 6; field = f } ≡ fieldRead s at
 six-left s at f h e = rw (le-ltb (length s) (at + 6) h, e) refl
 
-pub fewer-left : (s : List ℕ) (at : ℕ) → length s < at + 6 → record { next = length s; field = Faulty at } ≡ fieldRead s at
+pub fewer-left : (s : List ℕ) (at : ℕ) → length s < at + 6 →
+    record { next = length s; field = Faulty at } ≡ fieldRead s at
 fewer-left s at h = rw (lt-ltb (length s) (at + 6) h) refl
 
 -- the field that was read
-pub field-read : (b : List ℕ) (at : ℕ) (r : FieldRead) (f : Field) → r ≡ fieldRead b at → r .field ≡ f → fieldAt at b ≡ f
+pub field-read : (b : List ℕ) (at : ℕ) (r : FieldRead) (f : Field) → r ≡ fieldRead b at → r .field ≡ f →
+    fieldAt at b ≡ f
 field-read b at r f e g = sym (ap (λ (x : FieldRead). x .field) e) ∙ g

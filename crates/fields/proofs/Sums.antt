@@ -1,5 +1,5 @@
 -- The sum of a field's digits: with one column more it is the running value (`sum-last`), and it is the field's number
--- where no column breaks the rule (`field-sum`). `fields-all` has what is claimed of fields. Assumes nothing.
+-- where no column breaks the rule (`field-sum`). `fields-all` has what is claimed of fields.
 use mathlib.Core.Path.{_≡_, refl, sym, ap, _∙_}
 use mathlib.Core.Logic.{_↔_}
 use mathlib.Core.Bool.{Bool, true, false, _||_}
@@ -76,7 +76,8 @@ running-blank l = sum-last l 32
 
 running-none : (l : List ℕ) → some isDigit l ≡ false → digitsSum l ≡ 0
 running-none [] h = refl
-running-none (b ∷ l) h = by-test (isDigit b) (λ e. fails (rw e) h) (λ e. rw e (omega (arith, running-none l (rw e at h))))
+running-none (b ∷ l) h =
+    by-test (isDigit b) (λ e. fails (rw e) h) (λ e. rw e (omega (arith, running-none l (rw e at h))))
 
 -- one column more
 module _ (l : List ℕ) (k : ℕ) (h : k < length l) where

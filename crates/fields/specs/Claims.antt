@@ -1,5 +1,6 @@
--- What is claimed of fields (`Fields`): the sum of a field's digits goes from column to column as the running value does,
--- and is the field's number. Examples by `valuesAfter` and `brokenAfter`, which have the answers for 1 to 6 columns.
+-- What is claimed of fields (`Fields`): the sum of a field's digits goes from column to column as the running value
+-- does, and is the field's number. Examples by `valuesAfter` and `brokenAfter`, which have the answers for 1 to 6
+-- columns.
 use mathlib.Core.Path.{_≡_}
 use mathlib.Core.Logic.{_↔_}
 use mathlib.Core.Bool.{Bool, true, false}

@@ -31,7 +31,8 @@ onClass Foreign a b c d = d
 -- rule 2.2, column by column. The columns after a digit, with the number so far
 abbrev pub digitsFrom : ℕ → ℕ → List ℕ → Field
 digitsFrom at v [] = Number v
-digitsFrom at v (b ∷ bs) = let r = digitsFrom at (10 * v + (b - 48)) bs in onClass (classOf b) (Faulty at) r r (Faulty at)
+digitsFrom at v (b ∷ bs) =
+    let r = digitsFrom at (10 * v + (b - 48)) bs in onClass (classOf b) (Faulty at) r r (Faulty at)
 
 -- a zero that comes first is the last column
 abbrev pub zeroFrom : ℕ → List ℕ → Field
@@ -41,7 +42,8 @@ zeroFrom at (b ∷ bs) = Faulty at
 -- the columns from the first one, or after blanks
 abbrev pub fieldFrom : ℕ → List ℕ → Field
 fieldFrom at [] = Faulty at
-fieldFrom at (b ∷ bs) = let r = fieldFrom at bs in let d = digitsFrom at (b - 48) bs in onClass (classOf b) r (zeroFrom at bs) d (Faulty at)
+fieldFrom at (b ∷ bs) =
+    let r = fieldFrom at bs in let d = digitsFrom at (b - 48) bs in onClass (classOf b) r (zeroFrom at bs) d (Faulty at)
 
 -- the field at a column (rules 2.4 and 2.5): a fault with fewer than six bytes left, and known by the column asked
 abbrev pub fieldAt : ℕ → List ℕ → Field
@@ -96,7 +98,8 @@ runningAt k l =
     let whole : Running = record { broken = false; begun = some isDigit (take k l); value = digitsSum (take k l) } in
     pick (brokenBy k l) broken whole
 
--- the k digits of a number below 10 ^ k, and the number in k columns: a blank for each digit that it lacks, but for the last
+-- the k digits of a number below 10 ^ k, and the number in k columns: a blank for each digit that it lacks, but for the
+-- last
 abbrev pub digits : ℕ → ℕ → List ℕ
 digits zero v = []
 digits (suc k) v = (48 + v / 10 ^ k) ∷ digits k (v % 10 ^ k)

@@ -1,4 +1,5 @@
--- The places of a sheet's lines, as the functions look at them: worths, and what questions 6, 7 and 8 find wrong at one place. Assumes nothing.
+-- The places of a sheet's lines, as the functions look at them: worths, and what questions 6, 7 and 8 find wrong at one
+-- place.
 use mathlib.Core.Path.{_≡_, ap}
 use mathlib.Core.Bool.{Bool, true, false, not}
 use mathlib.Core.List.{List}
@@ -20,7 +21,8 @@ module _ (w : Sheet) (i c : ℕ) where
     field-here : ltb (suc c) (2 ^ w .lots) ≡ true
     field-here = lt-ltb (suc c) (2 ^ w .lots) (omega arith)
 
-    pub malformed-field : (b : List ℕ) (at : ℕ) (t : Bool) → at ≡ offset (w .lots) i c → t ≡ good (fieldAt at b) → not t ≡ malformed w i c b
+    pub malformed-field : (b : List ℕ) (at : ℕ) (t : Bool) → at ≡ offset (w .lots) i c → t ≡ good (fieldAt at b) →
+        not t ≡ malformed w i c b
     malformed-field b at t e f = rw (field-here, f, e)
 
     pub large-field : ltb 9999 (worth w i (c + 1)) ≡ tooLarge w i c
@@ -33,7 +35,8 @@ module _ (w : Sheet) (i c : ℕ) where
     end-here : ltb (suc c) (2 ^ w .lots) ≡ false
     end-here = le-ltb (suc c) (2 ^ w .lots) (omega arith)
 
-    pub malformed-end : (b : List ℕ) (at x : ℕ) → at ≡ offset (w .lots) i c → x ≡ getD b at 0 → not (eqb x 10) ≡ malformed w i c b
+    pub malformed-end : (b : List ℕ) (at x : ℕ) → at ≡ offset (w .lots) i c → x ≡ getD b at 0 →
+        not (eqb x 10) ≡ malformed w i c b
     malformed-end b at x e f = rw (end-here, f, e)
 
     pub large-end : false ≡ tooLarge w i c
@@ -53,7 +56,8 @@ module _ (k : ℕ) (b : List ℕ) (w : Sheet) (i c : ℕ) where
   pub wrong-eight : (k ≡ 6 → ⊥) → (k ≡ 7 → ⊥) → falls w i c ≡ wrong k b w i c
   wrong-eight e f = rw (ne-eqb k 6 e, ne-eqb k 7 f)
 
--- one lot of a bundle: whether the bundle s is worth no less than without lot j + 1, whose share of the bundle's number is p
+-- one lot of a bundle: whether the bundle s is worth no less than without lot j + 1, whose share of the bundle's number
+-- is p
 abbrev pub growsBy : List ℕ → ℕ → ℕ → ℕ → Bool
 growsBy ws i s j = bit j s ⊃ leb (getD ws (16 * i + (s - 2 ^ j)) 0) (getD ws (16 * i + s) 0)
 

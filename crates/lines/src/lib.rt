@@ -5,7 +5,8 @@ ghost use Prim.Native.Nat.{_+_, _*_, _/_, _%_, _^_, _≤_, _<_};
 ghost use Rattle.numbers.specs.Numbers.{Is};
 ghost use Rattle.sheet.specs.Sheets.{lineLength, offset, asSheet, worthPlace, worthsIn};
 ghost use Rattle.sheet.specs.Tables.{hasWorth};
-ghost use Rattle.sheet.specs.Questions.{fault, askEach, malformed, tooLarge, grows, falls, wrong, firstWrong, linesFault};
+ghost use Rattle.sheet.specs.Questions.{fault, askEach, malformed, tooLarge, grows, falls, wrong, firstWrong};
+ghost use Rattle.sheet.specs.Questions.{linesFault};
 use numbers::has;
 use numbers::power;
 use sheet::Fault;
@@ -144,7 +145,8 @@ fn wrong_at(question: u8, sheet: &[u8], numbers: &[u32; 96], n: usize, i: usize,
 // Question 6, 7 or 8, put to every place of the lines: the fault at the first that is wrong.
 pub fn ask_each(question: u8, sheet: &[u8], numbers: &[u32; 96], m: usize, n: usize) -> Fault
     requires { ⌜ (m ≤ 6) × (n ≤ 4) ⌝ }
-    ensures { λ r. ⌜ r ≡ askEach question n (firstWrong question (now (sheet .entry)) (asSheet m n (now (numbers .entry)))) (λ _. fault 0 0) ⌝ }
+    ensures { λ r. ⌜ r ≡ askEach question n
+        (firstWrong question (now (sheet .entry)) (asSheet m n (now (numbers .entry)))) (λ _. fault 0 0) ⌝ }
 {
     let size = bundles(n);
     let places = m * size;

@@ -1,4 +1,4 @@
--- Powers, products and remainders. Assumes nothing.
+-- Powers, products and remainders.
 use mathlib.Core.Path.{_≡_}
 use Prim.Native.Nat.{ℕ, zero, suc, _*_, _/_, _%_, _^_, _<_, _≤_}
 use native.Mathlib.Nat.{one-mul, mod-eq-of-lt, mod-lt, pow-le-pow-right, mul-le-mul, div-lt-iff-lt-mul}

@@ -1,6 +1,6 @@
 -- Bundles as bit sets: worths that do not fall when one lot is added do not fall when several are, for any number of
 -- lots (`subset-monotone`). By halving: first the lots but the lowest, then the lowest. So two numbers with the same
--- bits are equal (`bits-same`). Assumes nothing.
+-- bits are equal (`bits-same`).
 use mathlib.Core.Path.{_≡_, sym, ap, _∙_}
 use mathlib.Core.Bool.{true}
 use Prim.Native.Nat.{ℕ, zero, suc, _+_, _-_, _*_, _/_, _%_, _^_, _≤_, _<_}
@@ -60,7 +60,8 @@ subset-monotone (suc n) w step s t k sub h =
     let half : y / 2 ≡ x = omega arith in
     let less : y - 2 ^ suc j ≡ s % 2 + 2 * (x - 2 ^ j) = omega (arith, bit-le j x b) in
     rw less at (step (suc j) y (omega arith) (omega arith) (bit-half j y ∙ ap (bit j) half ∙ b)))
-    (s / 2) (t / 2) (omega arith) (λ j l b. sym (bit-half j t) ∙ sub (suc j) (omega arith) (bit-half j s ∙ b)) (omega arith) in
+    (s / 2) (t / 2) (omega arith) (λ j l b. sym (bit-half j t) ∙ sub (suc j) (omega arith) (bit-half j s ∙ b))
+    (omega arith) in
     let whole : s % 2 + 2 * (s / 2) ≡ s = omega arith in
     let le = lowest-le s t (sub 0 (omega arith)) in
     elim (ℕ-discrete (s % 2) (t % 2)) [

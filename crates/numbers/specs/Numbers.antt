@@ -1,4 +1,5 @@
--- Numbers as the code has them. Offers what a function says that answers a bounded number (`Is`), and the bits of a number (`bit`).
+-- Numbers as the code has them. Offers what a function says that answers a bounded number (`Is`), and the bits of a
+-- number (`bit`).
 use mathlib.Core.Path.{_≡_}
 use mathlib.Core.Bool.{Bool}
 use Prim.Native.Nat.{ℕ, _/_, _%_, _^_, _≤_}

@@ -1,5 +1,5 @@
--- Every number of a sale's answer has at most six digits (`prints-fit`), and a record of 59,994 bytes is long enough for every sale (`sale-asked`,
--- `never-nine`). Assumes nothing.
+-- Every number of a sale's answer has at most six digits (`prints-fit`), and a record of 59,994 bytes is long enough
+-- for every sale (`sale-asked`, `never-nine`).
 use mathlib.Core.Path.{_≡_, refl, sym, ap, subst, _∙_}
 use mathlib.Core.Logic.{_≢_, inl, inr}
 use mathlib.Core.Bool.{Bool}
@@ -68,7 +68,8 @@ module _ (b : List ℕ) (accepted : sheetFault b .number ≡ 0) where
         sum-const (w .buyers) 1 9999,
         shape b accepted .few-buyers,
         sum-mono (w .buyers) 1 (λ i. priceAt w ps i (market w .holds a i)) (λ _. 9999)
-            (λ i r. cheap i (market w .holds a i) r (singles-below (w .lots) i a (allocation-from (zeroFirst (w .buyers)) (w .lots) m .0))),
+            (λ i r. cheap i (market w .holds a i) r
+            (singles-below (w .lots) i a (allocation-from (zeroFirst (w .buyers)) (w .lots) m .0))),
       ))
 
   discount-small : (k : ℕ) → k < w .buyers → discountFor w ps (suc k) < 1000000
@@ -76,18 +77,26 @@ module _ (b : List ℕ) (accepted : sheetFault b .number ≡ 0) where
 
   rounds-small : length (saleSets w) < 1000000
   rounds-small =
-      omega (arith, sales.demand-2 b accepted .few-rounds, limit-small (w .buyers) (w .lots) (shape b accepted .few-buyers) (w .worths) (shape b accepted .small))
+      omega (
+        arith,
+        sales.demand-2 b accepted .few-rounds,
+        limit-small (w .buyers) (w .lots) (shape b accepted .few-buyers) (w .worths) (shape b accepted .small),
+      )
 
-  payment-small : (o o′ : List ℕ) (r : Sale) → SaleSays b o o′ r → r .number ≡ 0 → r ≡ settledSale w → (k : ℕ) → k < w .buyers → paymentFor w ps (suc k) < 1000000
+  payment-small : (o o′ : List ℕ) (r : Sale) → SaleSays b o o′ r → r .number ≡ 0 → r ≡ settledSale w → (k : ℕ) →
+      k < w .buyers → paymentFor w ps (suc k) < 1000000
   unfolding settledSale
   payment-small o o′ r says z e k h =
       let j : suc k - 1 ≡ k = omega arith in
       let low = demand-3 .payment-bound b o o′ r says z (suc k) (omega arith) .1 in
-      let same = ap (λ i. getD (r .payments) i 0) j ∙ ap (λ (s : Sale). getD (s .payments) k 0) e ∙ seats-at (w .buyers) (paymentFor w ps) k (shape b accepted .few-buyers) h in
+      let same =
+      ap (λ i. getD (r .payments) i 0) j ∙ ap (λ (s : Sale). getD (s .payments) k 0) e
+      ∙ seats-at (w .buyers) (paymentFor w ps) k (shape b accepted .few-buyers) h in
       omega (arith, low, same)
 
 -- an owner is one of the buyers, or nobody
-owner-small : (b o o′ : List ℕ) (r : Sale) → SaleSays b o o′ r → r .number ≡ 0 → sheetOf b .buyers ≤ 6 → (j : ℕ) → getD (r .owners) j 0 < 1000000
+owner-small : (b o o′ : List ℕ) (r : Sale) → SaleSays b o o′ r → r .number ≡ 0 → sheetOf b .buyers ≤ 6 → (j : ℕ) →
+    getD (r .owners) j 0 < 1000000
 owner-small b o o′ r says z few j =
     let w = sheetOf b in
     let d = directAnswer b in
@@ -118,7 +127,8 @@ settled-fits b o o′ r says z =
       rounds = omega (arith, ap (λ (s : Sale). s .rounds) e, rounds-small b yes′);
       owners = owner-small b o o′ r says z (shape b yes′ .few-buyers);
       prices =
-          subst (λ (x : Sale). (i s : ℕ) → Among (x .buyers) 1 i → s < 2 ^ x .lots → price (plain 6) (x .prices) i s < 1000000) (sym e)
+          subst (λ (x : Sale). (i s : ℕ) → Among (x .buyers) 1 i → s < 2 ^ x .lots →
+          price (plain 6) (x .prices) i s < 1000000) (sym e)
           (λ i s a h. omega (arith, cheap b yes′ i s a h));
       discounts = λ k. rw e
           (seats-small 1000000 (w .buyers) (discountFor w (lastPrices w)) (shape b yes′ .few-buyers) (omega arith)
@@ -146,7 +156,12 @@ refused-fits b o o′ r says n =
                       let yes-to = told .first-no (r .number) (omega arith) g .0 refl .0 in
                       let (some, few) = yes-to 3 (omega arith) in
                       let (some′, short) = yes-to 4 (omega arith) in
-                      omega (arith, told .a-place l g .1, yes-to 5 (omega arith), most-bytes (sheetOf b .buyers) (sheetOf b .lots) few short)
+                      omega (
+                        arith,
+                        told .a-place l g .1,
+                        yes-to 5 (omega arith),
+                        most-bytes (sheetOf b .buyers) (sheetOf b .lots) few short,
+                      )
                 ]
           ];
       buyers = omega (arith, ap (λ (s : Sale). s .buyers) e);
@@ -159,7 +174,8 @@ refused-fits b o o′ r says n =
     }
 
 pub prints-fit : (b o o′ : List ℕ) (r : Sale) → SaleSays b o o′ r → Printable r
-prints-fit b o o′ r says = elim (ℕ-discrete (r .number) 0) [ yes z ↦ settled-fits b o o′ r says z | no n ↦ refused-fits b o o′ r says n ]
+prints-fit b o o′ r says =
+    elim (ℕ-discrete (r .number) 0) [ yes z ↦ settled-fits b o o′ r says z | no n ↦ refused-fits b o o′ r says n ]
 
 -- no sheet asks for more than 59,994 bytes of record
 pub limit-low : (b : List ℕ) → sheetFault b .number ≡ 0 → roundLimit (sheetOf b) ≤ 59994

@@ -1,6 +1,6 @@
 -- The text of a sheet: it is what is printed of its sale with any record that is long enough (`any-record`), it has 13
 -- to 227 bytes (`shortest`, `longest`), and it depends on the first 560 bytes alone (`cut`). All that is claimed of
--- printing: `prints-all`. `text-told` and `text-within` are for the text as an answer. Assumes nothing.
+-- printing: `prints-all`. `text-told` and `text-within` are for the text as an answer.
 use mathlib.Core.Path.{_≡_, refl, sym, ap, ap₂, subst, _∙_}
 use mathlib.Core.Logic.{_≢_, inl, inr}
 use mathlib.Core.List.{List, [], _∷_}
@@ -14,7 +14,7 @@ use borrow.Author.Tests.{eq-eqb, ne-eqb}
 use Rattle.theory.specs.Sums.{pick}
 use Rattle.theory.specs.Lists.{over}
 use Rattle.theory.proofs.Tests.{by-test}
-use Rattle.theory.proofs.Over.{over-long}
+use Rattle.printing.proofs.Lines.{front-within}
 use Rattle.fields.proofs.Lines.{line-length}
 use Rattle.sheet.specs.Sheets.{Sheet, sheetOf}
 use Rattle.sheet.specs.Questions.{accepts, onward, sheetFault}
@@ -39,12 +39,13 @@ printed-settled w = refl
 
 printed-refused : (f : Fault) → f .number ≢ 0 → printed (refusedSale f) ≡ refusedText (f .number) (f .place)
 unfolding refusedSale
-printed-refused f n = ap (λ x. pick x (settledText (refusedSale f)) (refusedText (f .number) (f .place))) (ne-eqb (f .number) 0 n)
+printed-refused f n =
+    ap (λ x. pick x (settledText (refusedSale f)) (refusedText (f .number) (f .place))) (ne-eqb (f .number) 0 n)
 
 pub shortest : (r : Sale) → 13 ≤ length (printed r)
 shortest r =
-    let long = text-length (r .buyers) (r .lots) (r .rounds) (r .prices) (r .owners) (r .discounts) (r .payments) in
-    by-test (eqb (r .number) 0) (λ e. rw e (omega (arith, long))) (λ e. rw e (omega (arith, line-length (r .number ∷ r .place ∷ []))))
+    by-test (eqb (r .number) 0) (λ e. rw e (omega (arith, text-length r)))
+    (λ e. rw e (omega (arith, line-length (r .number ∷ r .place ∷ []))))
 
 module _ (b : List ℕ) where
   settled : sheetFault b .number ≡ 0 → printedSale b ≡ settledText (settledSale (sheetOf b))
@@ -61,10 +62,13 @@ module _ (b : List ℕ) where
       let f = sheetFault b in
       let s = settledSale (sheetOf b) in
       elim (ℕ-discrete (f .number) 0) [
-        | yes z ↦ ap (λ g. printed (onward (accepts g) (λ _. s) (refusedSale g))) (sale-asked b room long z) ∙ printed-settled (sheetOf b) ∙ sym (settled z)
+        | yes z ↦
+            ap (λ g. printed (onward (accepts g) (λ _. s) (refusedSale g))) (sale-asked b room long z)
+            ∙ printed-settled (sheetOf b) ∙ sym (settled z)
         | no n ↦
             ap (λ g. printed (onward (accepts g) (λ _. s) (refusedSale g))) (sale-first b room long n)
-            ∙ ap (λ x. printed (onward x (λ _. s) (refusedSale f))) (ne-eqb (f .number) 0 n) ∙ printed-refused f n ∙ sym (refused n)
+            ∙ ap (λ x. printed (onward x (λ _. s) (refusedSale f))) (ne-eqb (f .number) 0 n) ∙ printed-refused f n
+            ∙ sym (refused n)
       ]
 
   pub longest : length (printedSale b) ≤ 227
@@ -72,14 +76,8 @@ module _ (b : List ℕ) where
   longest =
       elim (ℕ-discrete (sheetFault b .number) 0) [
         | yes z ↦
-            let s = settledSale (sheetOf b) in
-            omega (
-              arith,
-              ap length (settled z),
-              text-length (s .buyers) (s .lots) (s .rounds) (s .prices) (s .owners) (s .discounts) (s .payments),
-              shape b z .few-buyers,
-              shape b z .few-lots,
-            )
+            let long = text-length (settledSale (sheetOf b)) in
+            omega (arith, ap length (settled z), long, shape b z .few-buyers, shape b z .few-lots)
         | no n ↦ omega (arith, ap length (refused n), line-length (sheetFault b .number ∷ sheetFault b .place ∷ []))
       ]
 
@@ -90,27 +88,25 @@ cut b =
       | no l ↦
           let a = take 560 b in
           let long : 560 ≤ length a = omega (arith, length-take-le 560 b (omega arith)) in
-          let same : sheetFault a ≡ sheetFault b = sym (long-alike a (drop 560 b) long) ∙ ap sheetFault (take-append-drop 560 b) in
-          refused a (long-refused a long) ∙ ap (λ (f : Fault). refusedText (f .number) (f .place)) same ∙ sym (refused b (long-refused b (omega arith)))
+          let same : sheetFault a ≡ sheetFault b =
+          sym (long-alike a (drop 560 b) long) ∙ ap sheetFault (take-append-drop 560 b) in
+          refused a (long-refused a long) ∙ ap (λ (f : Fault). refusedText (f .number) (f .place)) same
+          ∙ sym (refused b (long-refused b (omega arith)))
     ]
 
 -- a sale that is printed over 227 zeros, with 59,994 bytes of record
-pub text-told : (b o o′ t t′ : List ℕ) (r : ℕ) → PrintSays b o o′ t t′ r → 59994 ≤ length o → length t ≡ 227 → t ≡ replicate 227 0 →
+pub text-told : (b o o′ t t′ : List ℕ) (r : ℕ) → PrintSays b o o′ t t′ r → 59994 ≤ length o → length t ≡ 227 →
+    t ≡ replicate 227 0 →
     record { bytes = t′; length = r } ≡ textOf b
 text-told b o o′ t t′ r says long room zeros =
-    let whole = subst (λ x. Puts x t t′ r) (any-record b (length o) long) (says .prints) .whole (omega (arith, longest b)) in
+    let whole =
+    subst (λ x. Puts x t t′ r) (any-record b (length o) long) (says .prints) .whole (omega (arith, longest b)) in
     ap₂ (λ x k. record { bytes = x; length = k }) (whole .1 ∙ ap (over (printedSale b)) zeros) (whole .0)
 
 -- its length lies within its bytes
 pub text-within : (b : List ℕ) (r : Text) → r ≡ textOf b → r .length ≤ length (r .bytes)
 text-within b r e =
-    omega (
-      arith,
-      longest b,
-      ap (λ (x : Text). x .length) e,
-      ap (λ (x : Text). length (x .bytes)) e,
-      over-long (printedSale b) (replicate 227 0) (omega (arith, longest b)),
-    )
+    subst (λ (x : Text). x .length ≤ length (x .bytes)) (sym e) (front-within (printedSale b) 227 (longest b))
 
 -- demand 1
 refused-print : (b o o′ : List ℕ) (r : Sale) → SaleSays b o o′ r → r .number ≢ 0 →

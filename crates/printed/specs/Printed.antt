@@ -24,18 +24,19 @@ abbrev pub lotLine : List ℕ → ℕ → List ℕ
 lotLine owners j = (j + 1) ∷ getD owners j 0 ∷ []
 
 -- rule 6.3: the line of a buyer, counted from 0 as well
-abbrev pub buyerLine : ℕ → List ℕ → List ℕ → List ℕ → List ℕ → ℕ → List ℕ
-buyerLine lots owners prices discounts payments i =
-    (i + 1) ∷ price (plain 6) prices (i + 1) (bundleFrom single 0 (i + 1) (take lots owners)) ∷ getD discounts i 0 ∷ getD payments i 0 ∷ []
+abbrev pub buyerLine : Sale → ℕ → List ℕ
+buyerLine r i =
+    (i + 1) ∷ price (plain 6) (r .prices) (i + 1) (bundleFrom single 0 (i + 1) (take (r .lots) (r .owners)))
+    ∷ getD (r .discounts) i 0 ∷ getD (r .payments) i 0 ∷ []
 
 -- rule 6.3: the first line, then those of the lots and of the buyers
-abbrev pub settledBy : ℕ → ℕ → ℕ → List ℕ → List ℕ → List ℕ → List ℕ → List (List ℕ)
-settledBy buyers lots rounds prices owners discounts payments =
-    (0 ∷ buyers ∷ lots ∷ rounds ∷ [])
-    ∷ (tabulate lots 0 (lotLine owners) ++ tabulate buyers 0 (buyerLine lots owners prices discounts payments))
+abbrev pub settledLines : Sale → List (List ℕ)
+settledLines r =
+    (0 ∷ r .buyers ∷ r .lots ∷ r .rounds ∷ [])
+    ∷ (tabulate (r .lots) 0 (lotLine (r .owners)) ++ tabulate (r .buyers) 0 (buyerLine r))
 
 abbrev pub settledText : Sale → List ℕ
-settledText r = linesOf (settledBy (r .buyers) (r .lots) (r .rounds) (r .prices) (r .owners) (r .discounts) (r .payments))
+settledText r = linesOf (settledLines r)
 
 -- rule 6.4: the line of a refusal
 abbrev pub refusedText : ℕ → ℕ → List ℕ
@@ -46,14 +47,18 @@ printed r = pick (eqb (r .number) 0) (settledText r) (refusedText (r .number) (r
 
 -- what is printed of a sheet whose sale has all the record that it needs: refused by questions 1 to 8 alone
 unfoldable pub printedSale : List ℕ → List ℕ
-printedSale b = let f = sheetFault b in onward (accepts f) (λ _. settledText (settledSale (sheetOf b))) (refusedText (f .number) (f .place))
+printedSale b =
+    let f = sheetFault b in
+    onward (accepts f) (λ _. settledText (settledSale (sheetOf b))) (refusedText (f .number) (f .place))
 
--- a text put at the front of a buffer o: its length is answered; or 0, where it has no room, and the buffer keeps its bytes
+-- a text put at the front of a buffer o: its length is answered; or 0, where it has no room, and the buffer keeps its
+-- bytes
 pub record Puts (text o o′ : List ℕ) (r : ℕ) : Type 0 where
   pub whole : length text ≤ length o → (r ≡ length text) × (o′ ≡ over text o)
   pub none : length o < length text → (r ≡ 0) × (o′ ≡ o)
 
--- an answer whose numbers all fit six columns, of at most six buyers and four lots; prices of the buyers and bundles there are
+-- an answer whose numbers all fit six columns, of at most six buyers and four lots; prices of the buyers and bundles
+-- there are
 pub record Printable (r : Sale) : Type 0 where
   pub number : r .number < 1000000
   pub place : r .place < 1000000

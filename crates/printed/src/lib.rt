@@ -1,13 +1,15 @@
 // A sale printed in lines of fields.
 ghost use mathlib.Core.Path.{_≡_};
 ghost use mathlib.Core.List.{[], _∷_};
-ghost use Prim.Native.Nat.{ℕ, _*_, _≤_, _<_};
-ghost use lib.ListN.{length, getD};
+ghost use Prim.Native.Nat.{_*_, _≤_, _<_};
+ghost use lib.ListN.{length};
 ghost use Rattle.theory.specs.Lists.{tabulate, over};
 ghost use Rattle.numbers.specs.Numbers.{Is};
 ghost use Rattle.fields.specs.Fields.{lineOf, linesOf};
-ghost use Rattle.printed.specs.Printed.{lotLine, buyerLine, settledBy, Puts, PrintSays, textOf, Prints};
+ghost use Rattle.printed.specs.Printed.{lotLine, buyerLine, settledText, Printable, Puts, PrintSays, textOf};
+ghost use Rattle.printed.specs.Printed.{Prints};
 use printing::put_line;
+use sale::Sale;
 
 // A printed sale, which has at most 227 bytes.
 pub struct Text {
@@ -39,26 +41,22 @@ fn put_lots(out: &mut [u8], owners: [u8; 4], lots: usize)
 }
 
 // The lines of the buyers, at the front of a buffer.
-fn put_buyers(
-    out: &mut [u8],
-    prices: &[u16; 96],
-    owners: [u8; 4],
-    discounts: [u32; 6],
-    payments: [u32; 6],
-    buyers: usize,
-    lots: usize,
-)
-    requires { ⌜ (buyers ≤ 6) × (lots ≤ 4) × (25 * buyers ≤ length (now out)) × ((k : ℕ) → getD discounts k 0 < 1000000) × ((k : ℕ) → getD payments k 0 < 1000000) ⌝ }
-    ensures { λ _. ⌜ now (out .exit) ≡ over (linesOf (tabulate buyers 0 (buyerLine lots owners (now (prices .entry)) discounts payments))) (now (out .entry)) ⌝ }
+fn put_buyers(out: &mut [u8], r: Sale)
+    requires { ⌜ Printable r × (25 * r .buyers ≤ length (now out)) ⌝ }
+    ensures { λ _. ⌜ now (out .exit) ≡ over (linesOf (tabulate (r .buyers) 0 (buyerLine r))) (now (out .entry)) ⌝ }
 {
+    let owners = r.owners;
+    let prices = r.prices;
+    let m = r.buyers as usize;
+    let n = r.lots as usize;
     let mut i: usize = 0;
-    while i < buyers {
+    while i < m {
         let at = 25 * i;
-        let s = totals::bundle_of(owners, lots, i + 1);
-        let p = demand::price_of(prices, i + 1, s);
+        let s = totals::bundle_of(owners, n, i + 1);
+        let p = demand::price_of(&prices, i + 1, s);
         let buyer = (i + 1) as u32;
-        let d = discounts[i];
-        let due = payments[i];
+        let d = r.discounts[i];
+        let due = r.payments[i];
         let line = [buyer, p, d, due];
         put_line(&mut out[at..], &line);
         i += 1;
@@ -79,40 +77,26 @@ fn put_refusal(out: &mut [u8], number: u32, place: u32) -> usize
 }
 
 // Prints a settled sale, in the same way.
-fn put_settled(
-    out: &mut [u8],
-    prices: &[u16; 96],
-    owners: [u8; 4],
-    discounts: [u32; 6],
-    payments: [u32; 6],
-    buyers: usize,
-    lots: usize,
-    rounds: u32,
-) -> usize
-    requires { ⌜ (buyers ≤ 6) × (lots ≤ 4) × (rounds < 1000000) × ((k : ℕ) → getD discounts k 0 < 1000000) × ((k : ℕ) → getD payments k 0 < 1000000) ⌝ }
-    ensures { λ r. ⌜ Puts (linesOf (settledBy buyers lots rounds (now (prices .entry)) owners discounts payments)) (now (out .entry)) (now (out .exit)) r ⌝ }
+fn put_settled(out: &mut [u8], r: Sale) -> usize
+    requires { ⌜ Printable r ⌝ }
+    ensures { λ k. ⌜ Puts (settledText r) (now (out .entry)) (now (out .exit)) k ⌝ }
 {
-    let at = 25 + 13 * lots;
-    let end = at + 25 * buyers;
+    let owners = r.owners;
+    let n = r.lots as usize;
+    let at = 25 + 13 * n;
+    let end = at + 25 * (r.buyers as usize);
     if out.len() < end {
         return 0;
     }
-    let first = [0, buyers as u32, lots as u32, rounds];
+    let first = [0, r.buyers as u32, r.lots as u32, r.rounds];
     put_line(out, &first);
-    put_lots(&mut out[25..], owners, lots);
-    put_buyers(
-        &mut out[at..],
-        prices,
-        owners,
-        discounts,
-        payments,
-        buyers,
-        lots,
-    );
+    put_lots(&mut out[25..], owners, n);
+    put_buyers(&mut out[at..], r);
     end
 }
 
-// Runs the sale of a sheet, with a record as `run_sale` has it, and prints its answer: the length of what is printed, or 0 where it has no room.
+// Runs the sale of a sheet, with a record as `run_sale` has it, and prints its answer: the length of what is printed,
+// or 0 where it has no room.
 pub fn print_sale(sheet: &[u8], log: &mut [u8], out: &mut [u8]) -> usize
     ensures { λ r. ⌜ PrintSays (now (sheet .entry)) (now (log .entry)) (now (log .exit)) (now (out .entry)) (now (out .exit)) r ⌝ }
 {
@@ -120,13 +104,7 @@ pub fn print_sale(sheet: &[u8], log: &mut [u8], out: &mut [u8]) -> usize
     if r.number != 0 {
         return put_refusal(out, r.number as u32, r.place);
     }
-    let prices = r.prices;
-    let owners = r.owners;
-    let discounts = r.discounts;
-    let payments = r.payments;
-    let m = r.buyers as usize;
-    let n = r.lots as usize;
-    put_settled(out, &prices, owners, discounts, payments, m, n, r.rounds)
+    put_settled(out, r)
 }
 
 // The printed sale of a sheet, with a record of its own that every sale has room in.

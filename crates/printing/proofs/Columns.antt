@@ -1,5 +1,5 @@
--- A number printed column by column (`Putting`): the begin (`put-none`), one column more, with a digit (`put-digit`) or a blank (`put-blank`), and the end
--- (`put-all`). Assumes a number of at most six digits.
+-- A number printed column by column (`Putting`): the begin (`put-none`), one column more, with a digit (`put-digit`) or
+-- a blank (`put-blank`), and the end (`put-all`). Assumes a number of at most six digits.
 use mathlib.Core.Path.{_≡_, refl, sym, ap, _∙_}
 use mathlib.Core.Bool.{Bool, true, false, _||_}
 use mathlib.Core.List.{List, [], _∷_, _++_}
@@ -23,21 +23,24 @@ abbrev pub lastColumns : Bool → ℕ → ℕ → List ℕ
 lastColumns true k v = digits k v
 lastColumns false k v = columns k v
 
--- whether a digit stands in a column whose power of ten is `share`: from the first on that the number has, and in the last
+-- whether a digit stands in a column whose power of ten is `share`: from the first on that the number has, and in the
+-- last
 abbrev pub hasDigit : Bool → ℕ → ℕ → Bool
 hasDigit begun share v = begun || (eqb share 1 || leb share v)
 
 more-tens : (k : ℕ) → eqb (10 ^ suc k) 1 ≡ false
 more-tens k = ne-eqb (10 ^ suc k) 1 (λ e. omega (arith, pow-suc 10 k, tens-some k))
 
-digit-next : (begun : Bool) (k v : ℕ) → hasDigit begun (10 ^ k) v ≡ true → lastColumns begun (suc k) v ≡ (48 + v / 10 ^ k) ∷ digits k (v % 10 ^ k)
+digit-next : (begun : Bool) (k v : ℕ) → hasDigit begun (10 ^ k) v ≡ true →
+    lastColumns begun (suc k) v ≡ (48 + v / 10 ^ k) ∷ digits k (v % 10 ^ k)
 digit-next true k v t = refl
 digit-next false zero v t = refl
 digit-next false (suc k) v t =
     let low : 10 ^ suc k ≤ v = leb-true (10 ^ suc k) v (rw (more-tens k) at t) in
     rw (le-leb 1 (suc k) (omega arith), le-ltb v (10 ^ suc k) low) refl
 
-blank-next : (begun : Bool) (k v : ℕ) → hasDigit begun (10 ^ k) v ≡ false → (lastColumns begun (suc k) v ≡ 32 ∷ columns k v) × (v < 10 ^ k)
+blank-next : (begun : Bool) (k v : ℕ) → hasDigit begun (10 ^ k) v ≡ false →
+    (lastColumns begun (suc k) v ≡ 32 ∷ columns k v) × (v < 10 ^ k)
 blank-next true k v t = absurd (fails refl t)
 blank-next false zero v t = absurd (fails refl t)
 blank-next false (suc k) v t =
@@ -63,7 +66,8 @@ module _ (n : ℕ) (o : List ℕ) where
     pub put-long : 6 ≤ length o → length l ≡ length o
     put-long room =
         ap length (p .done)
-        ∙ over-long (take k (columns 6 n)) o (omega (arith, length-take-le k (columns 6 n) (omega (arith, p .within, columns-length 6 n)), p .within))
+        ∙ over-long (take k (columns 6 n)) o
+        (omega (arith, length-take-le k (columns 6 n) (omega (arith, p .within, columns-length 6 n)), p .within))
 
     pub put-all : 6 ≤ k → l ≡ over (columns 6 n) o
     put-all h =
@@ -84,8 +88,10 @@ module _ (n : ℕ) (o : List ℕ) where
       written : (b : ℕ) → b ≡ getD (columns 6 n) k 0 → set l k b ≡ over (take (k + 1) (columns 6 n)) o
       written b e =
           ap (λ x. set x k b) (p .done)
-          ∙ over-more (take k (columns 6 n)) o b k (length-take-le k (columns 6 n) (omega (arith, inside))) (omega arith)
-          ∙ ap (λ x. over x o) (ap (λ c. take k (columns 6 n) ++ (c ∷ [])) e ∙ sym (take-suc (columns 6 n) k 0 inside) ∙ ap (λ j. take j (columns 6 n)) (sym (add-one k)))
+          ∙ over-more (take k (columns 6 n)) o b k (length-take-le k (columns 6 n) (omega (arith, inside)))
+          (omega arith)
+          ∙ ap (λ x. over x o) (ap (λ c. take k (columns 6 n) ++ (c ∷ [])) e ∙ sym (take-suc (columns 6 n) k 0 inside)
+          ∙ ap (λ j. take j (columns 6 n)) (sym (add-one k)))
 
       next-share : k + 1 < 6 → share / 10 ≡ 10 ^ (5 - (k + 1))
       next-share g =
@@ -105,7 +111,8 @@ module _ (n : ℕ) (o : List ℕ) where
       pub share-some : 1 ≤ share
       share-some = rw share-is (tens-some (5 - k))
 
-      pub put-digit : hasDigit begun share rest ≡ true → Putting n o true (rest % share) (share / 10) (k + 1) (set l k (48 + rest / share))
+      pub put-digit : hasDigit begun share rest ≡ true →
+          Putting n o true (rest % share) (share / 10) (k + 1) (set l k (48 + rest / share))
       put-digit t =
           let e = opened ∙ digit-next begun (5 - k) rest (asked ∙ t) in
           let j : 6 - (k + 1) ≡ 5 - k = omega arith in
@@ -115,7 +122,8 @@ module _ (n : ℕ) (o : List ℕ) where
             power = next-share;
             done = written (48 + rest / share) (ap (λ x. 48 + rest / x) share-is ∙ sym (ap (λ x. getD x 0 0) e));
             left =
-                ap (λ i. drop i (columns 6 n)) (add-one k) ∙ ap (drop 1) e ∙ ap (λ i. digits i (rest % 10 ^ (5 - k))) (sym j)
+                ap (λ i. drop i (columns 6 n)) (add-one k) ∙ ap (drop 1) e
+                ∙ ap (λ i. digits i (rest % 10 ^ (5 - k))) (sym j)
                 ∙ ap (λ x. digits (6 - (k + 1)) (rest % x)) (sym share-is);
           }
 

@@ -1,4 +1,4 @@
--- Two numbers, or four, each below a bound (`two-small`, `four-small`). Assumes nothing.
+-- Two numbers, or four, each below a bound (`two-small`, `four-small`).
 use mathlib.Core.List.{[], _∷_}
 use Prim.Native.Nat.{ℕ, zero, suc, _<_}
 use lib.ListN.{getD}

@@ -7,7 +7,8 @@ ghost use lib.ListN.{length, getD};
 ghost use Rattle.theory.specs.Lists.{over};
 ghost use Rattle.fields.specs.Fields.{columns, lineOf};
 
-// Whether a digit stands in a column, whose power of ten is `share`: from the first on that the number has, and in the last.
+// Whether a digit stands in a column, whose power of ten is `share`: from the first on that the number has, and in the
+// last.
 fn has_digit(begun: bool, share: u32, rest: u32) -> bool
     ensures { λ r. ⌜ r ≡ (begun || (eqb share 1 || leb share rest)) ⌝ }
 {

@@ -1,5 +1,5 @@
--- The questions in their order: what each answer says of the sheet's fault. Offers one law for each way out of `ask_each`, `ask_lines` and `ask_head`.
--- Assumes nothing.
+-- The questions in their order: what each answer says of the sheet's fault. Offers one law for each way out of
+-- `ask_each`, `ask_lines` and `ask_head`.
 use mathlib.Core.Path.{_≡_, refl, sym, ap, _∙_}
 use mathlib.Core.Bool.{Bool, true, false}
 use mathlib.Core.List.{List}
@@ -20,7 +20,8 @@ use Rattle.sheet.specs.Questions.{fault, headGood, between, sheetFault}
 use Rattle.reading.specs.Steps.{HeadRead, HeadAsked}
 
 -- question 2: r and s are the fields that are read, x the byte after them
-module _ (b : List ℕ) (long : 13 ≤ length b) (r s : FieldRead) (er : r ≡ fieldRead b 0) (es : s ≡ fieldRead b (r .next)) where
+module _ (b : List ℕ) (long : 13 ≤ length b) (r s : FieldRead) (er : r ≡ fieldRead b 0)
+    (es : s ≡ fieldRead b (r .next)) where
   first-next : r .next ≡ 6
   first-next = ap (λ (x : FieldRead). x .next) er ∙ rw (le-ltb (length b) (0 + 6) (omega arith))
 
@@ -44,7 +45,8 @@ module _ (b : List ℕ) (long : 13 ≤ length b) (r s : FieldRead) (er : r ≡ f
 
   module _ (m : ℕ) (hm : r .field ≡ Number m) where
     pub second-faulty : (a : Head) → a .number ≡ 2 → (at : ℕ) → s .field ≡ Faulty at → HeadRead b a
-    second-faulty a e at h = head-refused a e (rw (ap good (first-field (Number m) hm), ap good (second-field (Faulty at) h)))
+    second-faulty a e at h =
+        head-refused a e (rw (ap good (first-field (Number m) hm), ap good (second-field (Faulty at) h)))
 
     module _ (n : ℕ) (hn : s .field ≡ Number n) (x : ℕ) (ex : x ≡ getD b (s .next) 0) where
       byte-is : x ≡ getD b 12 0
@@ -52,14 +54,22 @@ module _ (b : List ℕ) (long : 13 ≤ length b) (r s : FieldRead) (er : r ≡ f
 
       pub end-faulty : (a : Head) → a .number ≡ 2 → (x ≡ 10 → ⊥) → HeadRead b a
       end-faulty a e h =
-          head-refused a e (rw (ap good (first-field (Number m) hm), ap good (second-field (Number n) hn), ne-eqb (getD b 12 0) 10 (λ q. h (byte-is ∙ q))))
+          head-refused a e (rw (
+            ap good (first-field (Number m) hm),
+            ap good (second-field (Number n) hn),
+            ne-eqb (getD b 12 0) 10 (λ q. h (byte-is ∙ q)),
+          ))
 
       pub head-good : x ≡ 10 → HeadRead b (record { number = 0; buyers = m; lots = n })
       head-good h =
           record {
             refused = λ z. absurd (z refl);
             passed = λ _. (
-              rw (ap good (first-field (Number m) hm), ap good (second-field (Number n) hn), eq-eqb (getD b 12 0) 10 (sym byte-is ∙ h)),
+              rw (
+                ap good (first-field (Number m) hm),
+                ap good (second-field (Number n) hn),
+                eq-eqb (getD b 12 0) 10 (sym byte-is ∙ h),
+              ),
               sym (ap numberOf (first-field (Number m) hm)),
               sym (ap numberOf (second-field (Number n) hn)),
             );
@@ -103,7 +113,13 @@ module _ (b : List ℕ) where
       module _ (q3 : between 6 (h .buyers) ≡ true) where
         pub bad-lots : (r : Head) → r .number ≡ 4 → between 4 (h .lots) ≡ false → HeadAsked b r
         unfolding sheetFault
-        bad-lots r e q = turned-down r 3 e (rw (le-leb 13 (length b) long, asked .passed z .0, buyers-between true q3, lots-between false q))
+        bad-lots r e q =
+            turned-down r 3 e (rw (
+              le-leb 13 (length b) long,
+              asked .passed z .0,
+              buyers-between true q3,
+              lots-between false q,
+            ))
 
         module _ (q4 : between 4 (h .lots) ≡ true) (l : ℕ) (el : l ≡ lineLength (h .lots)) where
           length-is : 13 + h .buyers * l ≡ 13 + numberAt 0 b * lineLength (numberAt 6 b)

@@ -1,4 +1,4 @@
--- The ways out of reading a sheet whole: refused by the first line, refused by the lines, accepted. Assumes nothing.
+-- The ways out of reading a sheet whole: refused by the first line, refused by the lines, accepted.
 use mathlib.Core.Path.{_≡_, sym, ap, _∙_}
 use mathlib.Core.List.{List}
 use Prim.Native.Nat.{ℕ}
@@ -19,13 +19,15 @@ unfolding refusal worthsBy
 refusal-is f w h = rw (ne-eqb (f .number) 0 h)
 
 module _ (b : List ℕ) where
-  pub refused-head : (h : Head) → HeadAsked b h → (h .number ≡ 0 → ⊥) → (r : Worths) → r ≡ refusal (h .number) 0 → r ≡ worthsRead b
+  pub refused-head : (h : Head) → HeadAsked b h → (h .number ≡ 0 → ⊥) → (r : Worths) → r ≡ refusal (h .number) 0 →
+      r ≡ worthsRead b
   unfolding worthsRead
   refused-head h asked z r e =
       e ∙ refusal-is (fault (h .number) 0) (sheetOf b) z ∙ ap (λ g. worthsBy g (sheetOf b)) (sym (asked .refused z))
 
   -- the first line passes; ws are the numbers read, g the fault of the lines
-  module _ (h : Head) (p : Passed b h) (ws : List ℕ) (ews : ws ≡ worthsIn (h .buyers) (h .lots) b) (g : Fault) (eg : g ≡ linesFault b (asSheet (h .buyers) (h .lots) ws)) where
+  module _ (h : Head) (p : Passed b h) (ws : List ℕ) (ews : ws ≡ worthsIn (h .buyers) (h .lots) b) (g : Fault)
+      (eg : g ≡ linesFault b (asSheet (h .buyers) (h .lots) ws)) where
     sheet-is : asSheet (h .buyers) (h .lots) ws ≡ sheetOf b
     sheet-is = rw (ews, p .buyers, p .lots)
 
@@ -46,9 +48,13 @@ module _ (b : List ℕ) where
       pub small-worths : Small ws
       small-worths =
           let s = accepted-shape b accepted in
-          record { long = ap length worths-are ∙ s .long; small = λ k. omega (arith, s .small k, ap (λ l. getD l k 0) worths-are) }
+          record {
+            long = ap length worths-are ∙ s .long;
+            small = λ k. omega (arith, s .small k, ap (λ l. getD l k 0) worths-are);
+          }
 
-      pub accepted-worths : (t : List ℕ) → t ≡ ws → record { number = 0; place = 0; buyers = h .buyers; lots = h .lots; worths = t } ≡ worthsRead b
+      pub accepted-worths : (t : List ℕ) → t ≡ ws →
+          record { number = 0; place = 0; buyers = h .buyers; lots = h .lots; worths = t } ≡ worthsRead b
       unfolding worthsRead worthsBy
       accepted-worths t e =
           rw (
@@ -61,9 +67,11 @@ module _ (b : List ℕ) where
             p .lots,
           )
 
-pub read-only : (b : List ℕ) (r : Worths) → r ≡ worthsRead b → record { number = r .number; place = r .place; buyers = r .buyers; lots = r .lots } ≡ sheetRead b
+pub read-only : (b : List ℕ) (r : Worths) → r ≡ worthsRead b →
+    record { number = r .number; place = r .place; buyers = r .buyers; lots = r .lots } ≡ sheetRead b
 unfolding sheetRead
-read-only b r e = ap (λ (x : Worths). record { number = x .number; place = x .place; buyers = x .buyers; lots = x .lots }) e
+read-only b r e =
+    ap (λ (x : Worths). record { number = x .number; place = x .place; buyers = x .buyers; lots = x .lots }) e
 
 -- what an answer of `read_worths` says, to its callers
 pub record Accepted (b : List ℕ) (r : Worths) : Type 0 where

@@ -1,6 +1,6 @@
 -- A sheet in which a table of six-column numbers is written is read as that table (`written-read`), and gets a "yes" to
 -- questions 1 to 6 (`written-asked`); with worths that grow it is accepted (`written-accepted`). One with bytes missing
--- at its end is refused (`prefix-refused`). `sheets-all` has all the theorems about sheets. Assumes nothing.
+-- at its end is refused (`prefix-refused`). `sheets-all` has all the theorems about sheets.
 use mathlib.Core.Path.{_≡_, refl, sym, ap, subst, _∙_}
 use mathlib.Core.Logic.{_≢_}
 use mathlib.Core.List.{List, _++_}
@@ -22,7 +22,8 @@ use Rattle.sheet.proofs.Valued.{Bounded}
 use Rattle.sheet.proofs.Faults.{first-no, all-yes}
 use Rattle.sheet.proofs.Long.{field-front, long-refused, long-alike}
 use Rattle.sheet.proofs.Writing.{Written, bytes-written, written-same}
-use Rattle.sheet.proofs.Theorems.{refusal-range, place-zero, place-inside, place-least, accepted-shape, accepted-monotone, accepted-written}
+use Rattle.sheet.proofs.Theorems.{refusal-range, place-zero, place-inside, place-least, accepted-shape}
+use Rattle.sheet.proofs.Theorems.{accepted-monotone, accepted-written}
 
 module _ (b : List ℕ) (w : Sheet) (buyers : (1 ≤ w .buyers) × (w .buyers ≤ 6)) (lots : (1 ≤ w .lots) × (w .lots ≤ 4))
     (known : Bounded w 999999) (written : Written b w) where
@@ -69,7 +70,9 @@ module _ (b : List ℕ) (w : Sheet) (buyers : (1 ≤ w .buyers) × (w .buyers �
       (filled-all (λ k. worthPlace m n b (k / 16) (k % 16)) 96 96 (w .worths) (omega arith)
       (record {
         long = known .long;
-        done = λ k h. let whole : 16 * (k / 16) + k % 16 ≡ k = omega arith in rw whole at (place-same (k / 16) (k % 16) (omega arith));
+        done =
+            λ k h. let whole : 16 * (k / 16) + k % 16 ≡ k = omega arith in
+            rw whole at (place-same (k / 16) (k % 16) (omega arith));
       }))
 
   pub written-read : sheetOf b ≡ w
@@ -147,7 +150,9 @@ sheets-all =
       place-least = place-least;
       accepted-shape = accepted-shape;
       accepted-monotone = accepted-monotone;
-      accepted-bytes = λ b accepted. written-same (sheetOf b) b (bytesOf (sheetOf b)) (accepted-written b accepted) (bytes-written (sheetOf b));
+      accepted-bytes =
+          λ b accepted. written-same (sheetOf b) b (bytesOf (sheetOf b)) (accepted-written b accepted)
+          (bytes-written (sheetOf b));
       bytes-accepted = λ w shape grows. written-accepted (bytesOf w) w shape (bytes-written w) grows;
       prefix-refused = prefix-refused;
       long-refused = long-refused;

@@ -1,6 +1,6 @@
 -- The fault of a sheet, by the question that gets the first "no": which question that is (`first-no`, `all-yes`), and
 -- "yes" to those before one (`before-none`, `before-more`); what questions 6, 7 and 8 ask place by place
--- (`malformed-none`, `large-none`, `falls-none`). Assumes nothing.
+-- (`malformed-none`, `large-none`, `falls-none`).
 use mathlib.Core.Path.{_≡_, refl, subst}
 use mathlib.Core.Logic.{_↔_}
 use mathlib.Core.List.{List}

@@ -1,6 +1,7 @@
 -- Questions in the order in which they are asked, each with a number of its own: `FirstNo` says which of them gets the
 -- first "no", `first-asked` and `first-each` put one question more in front. The number is a question's exactly if that
--- is the first (`first-iff`), and 0 exactly if there is none (`first-none`). Assumes numbers above 0 that differ.
+-- is the first (`first-iff`, `first-no`), and 0 exactly if there is none (`first-none`, `first-number`). Assumes
+-- numbers above 0 that differ.
 use mathlib.Core.Path.{_≡_, refl, sym, ap, subst, _∙_}
 use mathlib.Core.Logic.{_↔_, _⊎_, inl, inr}
 use mathlib.Core.Bool.{Bool, true}
@@ -90,3 +91,15 @@ module _ (number back : ℕ → ℕ) (qs : List (Type 0)) (n : ℕ) (tells : (j 
           ],
         )
       ]
+
+  -- the same in two parts
+  pub first-no : (j : ℕ) → j < length qs →
+      (n ≡ number j) ↔ (((i : ℕ) → i < j → getD qs i (Unit {0})) × (getD qs j (Unit {0}) → ⊥))
+  first-no j h =
+      let (to, back) = first-iff j (tells j h) in (
+        λ e. let no-at = to e in (no-at .before, no-at .there),
+        λ (before, there). back (record { before = before; there = there }),
+      )
+
+  pub first-number : (n ≡ 0) ⊎ ((j : ℕ) × (j < length qs) × (n ≡ number j))
+  first-number = elim (first-told number qs n f) [ inl (z, _) ↦ inl z | inr (j, l, e, _) ↦ inr (j, l, e) ]

@@ -1,7 +1,7 @@
 -- Answers made of a fault (`Form`): `told-number` and `told-place` say which number and place such an answer has,
 -- `told-yes` and `told-no` whether it accepts. The fault of an entry that asks a question of its own is the sheet's,
 -- none, or that question's (`asked-first`, `asked-yes`, `asked-no`); none has place 0 (`asked-place`). With a "yes" it
--- is the sheet's (`asked-same`). Assumes nothing.
+-- is the sheet's (`asked-same`).
 use mathlib.Core.Path.{_≡_, refl, sym, ap, ap₂, _∙_}
 use mathlib.Core.Logic.{_≢_}
 use mathlib.Core.Bool.{Bool, true, false}
@@ -28,10 +28,12 @@ module _ {A : Type 0} (F : Form A) (g : Fault) where
   told = onward (accepts g) (λ _. F .yes) (F .no g)
 
   pub told-number : F .number told ≡ g .number
-  told-number = by-test (accepts g) (λ t. rw t (F .number-yes ∙ sym (eqb-true (g .number) 0 t))) (λ t. rw t (F .number-no g))
+  told-number =
+      by-test (accepts g) (λ t. rw t (F .number-yes ∙ sym (eqb-true (g .number) 0 t))) (λ t. rw t (F .number-no g))
 
   pub told-place : (g .number ≡ 0 → g .place ≡ 0) → F .place told ≡ g .place
-  told-place h = by-test (accepts g) (λ t. rw t (F .place-yes ∙ sym (h (eqb-true (g .number) 0 t)))) (λ t. rw t (F .place-no g))
+  told-place h =
+      by-test (accepts g) (λ t. rw t (F .place-yes ∙ sym (h (eqb-true (g .number) 0 t)))) (λ t. rw t (F .place-no g))
 
   pub told-yes : F .number told ≡ 0 → told ≡ F .yes
   told-yes z = rw (eq-eqb (g .number) 0 (sym told-number ∙ z))

@@ -1,18 +1,20 @@
--- What questions 6, 7 and 8 find: the first wrong place, none, and what is wrong there. Offers `first-place` (the first wrong place has the least offset),
--- and for each question what its "no" and its "yes" mean. Assumes nothing.
+-- What questions 6, 7 and 8 find: the first wrong place, none, and what is wrong there. Offers `first-place` (the first
+-- wrong place has the least offset), and for each question what its "no" and its "yes" mean.
 use mathlib.Core.Path.{_≡_, refl, sym, ap, _∙_}
 use mathlib.Core.Logic.{_⊎_, inl, inr}
 use mathlib.Core.Bool.{Bool, true, false, not}
 use mathlib.Core.List.{List, [], _∷_}
 use Prim.Native.Nat.{ℕ, zero, suc, _+_, _-_, _*_, _/_, _%_, _^_, _≤_, _<_}
-use native.Mathlib.Nat.{add-zero, suc-mul, mul-le-mul-right, div-add-mod', mul-add-div-right, mul-add-mod-self-right, div-eq-of-lt, mod-eq-of-lt}
+use native.Mathlib.Nat.{add-zero, suc-mul, mul-le-mul-right, div-add-mod', mul-add-div-right, mul-add-mod-self-right}
+use native.Mathlib.Nat.{div-eq-of-lt, mod-eq-of-lt}
 use native.Mathlib.Omega.{arith}
 use native.Mathlib.Decide.{ℕ-discrete, decLe}
 use lib.Dec.{ltb}
 use lib.ListN.{length, take, drop, getD}
 use borrow.Author.Tests.{ltb-true, ltb-false, lt-ltb, leb-false, not-true}
 use Rattle.theory.specs.Tests.{_⊃_, least}
-use Rattle.theory.proofs.Tests.{by-test, fails, Means, means-via, itself, and-means, imp-means, not-means, eqb-means, leb-means, every-means, every-fails, least-none, least-found}
+use Rattle.theory.proofs.Tests.{by-test, fails, Means, means-via, itself, and-means, imp-means, not-means, eqb-means}
+use Rattle.theory.proofs.Tests.{leb-means, every-means, every-fails, least-none, least-found}
 use Rattle.fields.specs.declared.Field.{Field}
 use Rattle.fields.specs.declared.Field.the-variants.{Number, Faulty}
 use Rattle.fields.specs.Fields.{Class, classOf, onClass, digitsFrom, zeroFrom, fieldFrom, fieldAt, good}
@@ -78,29 +80,34 @@ module _ (q : ℕ) (b : List ℕ) (w : Sheet) where
             let at : k ≤ i * size + c =
             elim (decLe k (i * size + c)) [
               | yes l ↦ l
-              | no l ↦ fails (counted i c (a .below .1) ∙ a .is-wrong) (f .before (i * size + c) (omega arith) (omega arith))
+              | no l ↦
+                  fails (counted i c (a .below .1) ∙ a .is-wrong) (f .before (i * size + c) (omega arith) (omega arith))
             ] in
-            rw (a .offset-is) (offset-mono (w .lots) (k / size) (k % size) i c (place-below k size some) (omega (arith, div-add-mod' k size)) (a .below .1));
+            rw (a .offset-is) (offset-mono (w .lots) (k / size) (k % size) i c (place-below k size some)
+            (omega (arith, div-add-mod' k size)) (a .below .1));
       }
 
   pub none-wrong : firstWrong q b w ≡ 0 → (i c : ℕ) → i < w .buyers → c < size → wrong q b w i c ≡ false
   unfolding firstWrong
   none-wrong e i c h g =
       sym (counted i c g)
-      ∙ least-none (w .buyers * size) 0 _ e (i * size + c) (omega (arith, count-below size (pow-some (w .lots)) (w .buyers) i c h g))
+      ∙ least-none (w .buyers * size) 0 _ e (i * size + c)
+      (omega (arith, count-below size (pow-some (w .lots)) (w .buyers) i c h g))
 
   pub all-right : ((i c : ℕ) → i < w .buyers → c < size → wrong q b w i c ≡ false) → firstWrong q b w ≡ 0
   all-right h = go (firstWrong q b w) refl
     where
       go : (x : ℕ) → firstWrong q b w ≡ x → firstWrong q b w ≡ 0
       go zero e = e
-      go (suc k) e = let f = first-place k e .found in fails (f .is-wrong) (h (f .line) (f .place) (f .below .0) (f .below .1))
+      go (suc k) e =
+          let f = first-place k e .found in fails (f .is-wrong) (h (f .line) (f .place) (f .below .0) (f .below .1))
 
 -- a field is a number, or faulty, and then known by the column asked
 abbrev Told : ℕ → Field → Type 0
 Told at f = ((v : ℕ) × (f ≡ Number v)) ⊎ (f ≡ Faulty at)
 
-class-told : (at : ℕ) (c : Class) (x y z u : Field) → Told at x → Told at y → Told at z → Told at u → Told at (onClass c x y z u)
+class-told : (at : ℕ) (c : Class) (x y z u : Field) → Told at x → Told at y → Told at z → Told at u →
+    Told at (onClass c x y z u)
 class-told at Blank x y z u a b c d = a
 class-told at Zero x y z u a b c d = b
 class-told at Digit x y z u a b c d = c
@@ -110,7 +117,8 @@ digits-told : (at v : ℕ) (l : List ℕ) → Told at (digitsFrom at v l)
 digits-told at v [] = inl (v, refl)
 digits-told at v (b ∷ l) =
     let r = digits-told at (10 * v + (b - 48)) l in
-    class-told at (classOf b) (Faulty at) (digitsFrom at (10 * v + (b - 48)) l) (digitsFrom at (10 * v + (b - 48)) l) (Faulty at) (inr refl) r r (inr refl)
+    class-told at (classOf b) (Faulty at) (digitsFrom at (10 * v + (b - 48)) l) (digitsFrom at (10 * v + (b - 48)) l)
+    (Faulty at) (inr refl) r r (inr refl)
 
 zero-told : (at : ℕ) (l : List ℕ) → Told at (zeroFrom at l)
 zero-told at [] = inl (0, refl)
@@ -123,7 +131,8 @@ columns-told at (b ∷ l) =
     (columns-told at l) (zero-told at l) (digits-told at (b - 48) l) (inr refl)
 
 pub field-told : (b : List ℕ) (at : ℕ) → ((v : ℕ) × (fieldAt at b ≡ Number v)) ⊎ (fieldAt at b ≡ Faulty at)
-field-told b at = by-test (ltb (length b) (at + 6)) (λ e. rw e (inr refl)) (λ e. rw e (columns-told at (take 6 (drop at b))))
+field-told b at =
+    by-test (ltb (length b) (at + 6)) (λ e. rw e (inr refl)) (λ e. rw e (columns-told at (take 6 (drop at b))))
 
 pub good-means : (b : List ℕ) (at : ℕ) → Means (good (fieldAt at b)) (GoodField b at)
 good-means b at = (
@@ -148,9 +157,11 @@ module _ (b : List ℕ) (w : Sheet) (i c : ℕ) where
   pub malformed-means : c < 2 ^ w .lots → Means (malformed w i c b) (Malformed w i c b)
   malformed-means below = by-test (isField w i c)
       (λ e. let here = field-means .0 e in
-      rw e (means-via (bad-means b at) (λ h. inl (here, h)) (λ h. elim h [ inl x ↦ x .1 | inr x ↦ absurd (let l = x .0 in omega arith) ])))
+      rw e (means-via (bad-means b at) (λ h. inl (here, h))
+      (λ h. elim h [ inl x ↦ x .1 | inr x ↦ absurd (let l = x .0 in omega arith) ])))
       (λ e. let end = ltb-false (suc c) (2 ^ w .lots) e in
-      rw e (means-via (not-means (eqb-means (getD b at 0) 10)) (λ h. inr (omega arith, h)) (λ h. elim h [ inl x ↦ absurd (let l = x .0 in omega arith) | inr x ↦ x .1 ])))
+      rw e (means-via (not-means (eqb-means (getD b at 0) 10)) (λ h. inr (omega arith, h))
+      (λ h. elim h [ inl x ↦ absurd (let l = x .0 in omega arith) | inr x ↦ x .1 ])))
 
   pub large-means : Means (tooLarge w i c) (TooLarge w i c)
   large-means = and-means field-means (ltb-true 9999 (worth w i (suc c)), lt-ltb 9999 (worth w i (suc c)))
@@ -165,7 +176,8 @@ module _ (b : List ℕ) (w : Sheet) (i c : ℕ) where
       (j, omega arith, has, leb-false (worth w i (suc c - 2 ^ j)) (worth w i (suc c)) more))
       (λ h.
       let (j, l, has, more) = h in
-      not-means (every-means (w .lots) 0 (λ j r. imp-means (itself (bit j (suc c))) (leb-means (worth w i (suc c - 2 ^ j)) (worth w i (suc c))))) .1
+      not-means (every-means (w .lots) 0
+      (λ j r. imp-means (itself (bit j (suc c))) (leb-means (worth w i (suc c - 2 ^ j)) (worth w i (suc c))))) .1
       (λ all. let le = all j (omega arith) has in absurd (omega arith))))
     where
       imp-fails : (x y : Bool) → (x ⊃ y) ≡ false → (x ≡ true) × (y ≡ false)

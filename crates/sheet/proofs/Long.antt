@@ -1,5 +1,5 @@
--- A sheet of 560 bytes or more is refused by questions 2 to 5 (`long-refused`), and its bytes past those make no difference (`long-alike`). Assumes
--- nothing.
+-- A sheet of 560 bytes or more is refused by questions 2 to 5 (`long-refused`), and its bytes past those make no
+-- difference (`long-alike`).
 use mathlib.Core.Path.{_≡_, refl, sym, _∙_}
 use mathlib.Core.Logic.{_≢_}
 use mathlib.Core.Bool.{Bool}
@@ -44,7 +44,13 @@ module _ (b : List ℕ) (long : 560 ≤ length b) where
       by-test (between 6 m)
       (λ few.
       by-test (between 4 n)
-      (λ short. rw (h, few, short, ne-eqb (length b) (13 + m * lineLength n) (λ e. omega (arith, most-bytes m n (between-means 6 m .0 few .1) (between-means 4 n .0 short .1)))) refl)
+      (λ short. rw (
+        h,
+        few,
+        short,
+        ne-eqb (length b) (13 + m * lineLength n)
+            (λ e. omega (arith, most-bytes m n (between-means 6 m .0 few .1) (between-means 4 n .0 short .1))),
+      ) refl)
       (λ short. rw (h, few, short) refl))
       (λ few. rw (h, few) refl))
       (λ h. rw h refl))
@@ -67,4 +73,5 @@ field-front a c at h =
 pub long-alike : (a c : List ℕ) → 560 ≤ length a → sheetFault (a ++ c) ≡ sheetFault a
 long-alike a c h =
     found-early (a ++ c) (omega (arith, length-append a c))
-    ∙ rw (field-front a c 0 (omega arith), field-front a c 6 (omega arith), List·getD-append a c 0 12 (omega arith)) (sym (found-early a h))
+    ∙ rw (field-front a c 0 (omega arith), field-front a c 6 (omega arith), List·getD-append a c 0 12 (omega arith))
+    (sym (found-early a h))

@@ -1,6 +1,5 @@
 -- A table's worths as a sheet has them (`cell`): what stands at a place of the empty bundle, an absent buyer, an absent
 -- bundle, and one that there is, and a bound; and by the place's number (`place-absent`, `place-there`, `place-worth`).
--- Assumes nothing.
 use mathlib.Core.Path.{_≡_, sym, ap, _∙_}
 use mathlib.Core.Bool.{true, false, _&&_}
 use Prim.Native.Nat.{ℕ, suc, _-_, _/_, _%_, _^_, _<_, _≤_}

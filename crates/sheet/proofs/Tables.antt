@@ -1,6 +1,6 @@
 -- A table's sheet (`tableSheet`) has its worths (`table-there`), bounded as they are (`table-bounded`), and 0 for the
 -- empty bundle (`table-empty`). If the table is `Tabled`, it has a shape (`table-shape`) and worths that grow
--- (`table-grows`), so its bytes are accepted and read as it is (`table-accepted`). Assumes nothing.
+-- (`table-grows`), so its bytes are accepted and read as it is (`table-accepted`).
 use mathlib.Core.Path.{_≡_, refl}
 use mathlib.Core.Bool.{true}
 use Prim.Native.Nat.{ℕ, _-_, _^_, _≤_, _<_}

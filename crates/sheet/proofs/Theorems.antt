@@ -1,6 +1,6 @@
 -- What is known of every sheet's fault, and of every accepted sheet: `refusal-range`, `place-zero`, `place-inside`,
 -- `place-least`, `accepted-shape`, `accepted-grows`, `accepted-monotone`, `accepted-written`. (`first-no` stands in
--- Faults, `field-canonical` in Canonical.) Assumes nothing.
+-- Faults, `field-canonical` in Canonical.)
 use mathlib.Core.Path.{_≡_, refl, sym, ap, subst, _∙_}
 use mathlib.Core.Logic.{_↔_}
 use mathlib.Core.Bool.{Bool, true}
@@ -18,7 +18,8 @@ use Rattle.fields.specs.Fields.{numberOf, columns}
 use Rattle.sheet.specs.Sheets.{lineLength, offset, Sheet, sheetOf, worth, worthIn, worthsIn}
 use Rattle.numbers.specs.Numbers.{bit}
 use Rattle.fields.specs.Fields.{numberAt}
-use Rattle.sheet.specs.Questions.{fault, ask, askEach, headGood, between, rightLength, wrong, firstWrong, linesFault, sheetFault}
+use Rattle.sheet.specs.Questions.{fault, ask, askEach, headGood, between, rightLength, wrong, firstWrong}
+use Rattle.sheet.specs.Questions.{linesFault, sheetFault}
 use Rattle.sheet.specs.Claims.{GoodField, Question, Malformed, TooLarge, Falls, WrongAt, LeastPlace}
 use Rattle.sheet.specs.Claims.{Shape, Grows}
 use Rattle.sheet.proofs.Writing.{Written}
@@ -30,10 +31,12 @@ use Rattle.sheet.proofs.Nowhere.{growing}
 use Rattle.sheet.proofs.Faults.{all-yes}
 
 module _ (P : Fault → Type 0) where
-  pub ask-cases : (k : ℕ) (x : Bool) (rest : Unit {0} → Fault) → P (fault k 0) → (x ≡ true → P (rest tt)) → P (ask k x rest)
+  pub ask-cases : (k : ℕ) (x : Bool) (rest : Unit {0} → Fault) → P (fault k 0) → (x ≡ true → P (rest tt)) →
+      P (ask k x rest)
   ask-cases k x rest h f = by-test x (λ e. rw e (f e)) (λ e. rw e h)
 
-  each-cases : (k n x : ℕ) (rest : Unit {0} → Fault) → ((j : ℕ) → x ≡ suc j → P (fault k (offset n (j / 2 ^ n) (j % 2 ^ n)))) → P (rest tt) → P (askEach k n x rest)
+  each-cases : (k n x : ℕ) (rest : Unit {0} → Fault) →
+      ((j : ℕ) → x ≡ suc j → P (fault k (offset n (j / 2 ^ n) (j % 2 ^ n)))) → P (rest tt) → P (askEach k n x rest)
   each-cases k n x rest h f = by-choice x (λ e. rw e f) (λ j e. rw e (h j e))
 
 module _ (b : List ℕ) where
@@ -46,7 +49,8 @@ module _ (b : List ℕ) where
   -- a fault is one of 1 to 5 with place 0, one of 6 to 8 at the first wrong place, or none
   fault-cases : (P : Fault → Type 0) →
       ((k : ℕ) → 1 ≤ k → k ≤ 5 → P (fault k 0)) →
-      (length b ≡ 13 + w .buyers * lineLength n → (q k : ℕ) → 6 ≤ q → q ≤ 8 → firstWrong q b w ≡ suc k → P (fault q (offset n (k / 2 ^ n) (k % 2 ^ n)))) →
+      (length b ≡ 13 + w .buyers * lineLength n → (q k : ℕ) → 6 ≤ q → q ≤ 8 → firstWrong q b w ≡ suc k →
+      P (fault q (offset n (k / 2 ^ n) (k % 2 ^ n)))) →
       P (fault 0 0) →
       P (sheetFault b)
   unfolding sheetFault linesFault
@@ -67,30 +71,53 @@ module _ (b : List ℕ) where
 
   -- rule 3.13: without 6, 7, 8 the place is 0; with them it stands in the lines after the first
   pub place-zero : sheetFault b .number < 6 → sheetFault b .place ≡ 0
-  place-zero = fault-cases (λ f. f .number < 6 → f .place ≡ 0) (λ k _ _ _. refl) (λ _ q k l _ _ h. absurd (omega arith)) (λ _. refl)
+  place-zero =
+      fault-cases (λ f. f .number < 6 → f .place ≡ 0) (λ k _ _ _. refl) (λ _ q k l _ _ h. absurd (omega arith))
+      (λ _. refl)
 
   pub place-inside : 6 ≤ sheetFault b .number → (13 ≤ sheetFault b .place) × (sheetFault b .place < length b)
   place-inside =
       fault-cases (λ f. 6 ≤ f .number → (13 ≤ f .place) × (f .place < length b))
       (λ k _ h l. absurd (omega arith))
       (λ long q k _ _ e _.
-      let f = first-place q b w k e .found in
-      (omega arith, omega (arith, f .offset-is, suc-mul (f .line) (lineLength n), mul-le-mul-right {m = suc (f .line)} {n = w .buyers} (lineLength n) (f .below .0), f .below .1)))
+      let f = first-place q b w k e .found in (
+        omega arith,
+        omega (
+          arith,
+          f .offset-is,
+          suc-mul (f .line) (lineLength n),
+          mul-le-mul-right {m = suc (f .line)} {n = w .buyers} (lineLength n) (f .below .0),
+          f .below .1,
+        ),
+      ))
       (λ l. absurd (omega arith))
 
   -- rule 3.13: with 6, 7, 8 the place is the least offset of all places that are wrong in that way
-  placed : (q : ℕ) → 6 ≤ q → sheetFault b .number ≡ q → LeastPlace w (λ i c. wrong q b w i c ≡ true) (sheetFault b .place)
+  placed : (q : ℕ) → 6 ≤ q → sheetFault b .number ≡ q →
+      LeastPlace w (λ i c. wrong q b w i c ≡ true) (sheetFault b .place)
   placed q l =
       fault-cases (λ f. f .number ≡ q → LeastPlace w (λ i c. wrong q b w i c ≡ true) (f .place))
       (λ k _ h e. absurd (omega arith))
-      (λ _ x k _ _ h e. subst (λ y. LeastPlace w (λ i c. wrong y b w i c ≡ true) (offset n (k / 2 ^ n) (k % 2 ^ n))) e (first-place x b w k h))
+      (λ _ x k _ _ h e. subst (λ y. LeastPlace w (λ i c. wrong y b w i c ≡ true) (offset n (k / 2 ^ n) (k % 2 ^ n))) e
+      (first-place x b w k h))
       (λ e. absurd (omega arith))
 
-  read-as : (T U : ℕ → ℕ → Type 0) (p : ℕ) → ((i c : ℕ) → c < 2 ^ n → T i c ↔ U i c) → LeastPlace w T p → LeastPlace w U p
+  read-as : (T U : ℕ → ℕ → Type 0) (p : ℕ) → ((i c : ℕ) → c < 2 ^ n → T i c ↔ U i c) → LeastPlace w T p →
+      LeastPlace w U p
   read-as T U p same h =
-      let moved : (A B : ℕ → ℕ → Type 0) (q : ℕ) → ((i c : ℕ) → c < 2 ^ n → A i c → B i c) → WrongAt w A q → WrongAt w B q =
-      λ A B q to a. record { line = a .line; place = a .place; below = a .below; offset-is = a .offset-is; is-wrong = to (a .line) (a .place) (a .below .1) (a .is-wrong) } in
-      record { found = moved T U p (λ i c g. same i c g .0) (h .found); least = λ q a. h .least q (moved U T q (λ i c g. same i c g .1) a) }
+      let moved : (A B : ℕ → ℕ → Type 0) (q : ℕ) → ((i c : ℕ) → c < 2 ^ n → A i c → B i c) → WrongAt w A q →
+      WrongAt w B q =
+      λ A B q to a. record {
+        line = a .line;
+        place = a .place;
+        below = a .below;
+        offset-is = a .offset-is;
+        is-wrong = to (a .line) (a .place) (a .below .1) (a .is-wrong);
+      } in
+      record {
+        found = moved T U p (λ i c g. same i c g .0) (h .found);
+        least = λ q a. h .least q (moved U T q (λ i c g. same i c g .1) a);
+      }
 
   pub place-least :
       (sheetFault b .number ≡ 6 → LeastPlace w (λ i c. Malformed w i c b) (sheetFault b .place))
@@ -121,7 +148,8 @@ module _ (b : List ℕ) where
     accepted-grows = growing b w (empty-worth (w .buyers) n b) (yes-to 8)
 
     -- rule 3.8, step by step: a bundle within another is worth at most as much
-    pub accepted-monotone : (i s t : ℕ) → i < w .buyers → s < 2 ^ n → t < 2 ^ n → ((j : ℕ) → j < n → bit j s ≡ true → bit j t ≡ true) → worth w i s ≤ worth w i t
+    pub accepted-monotone : (i s t : ℕ) → i < w .buyers → s < 2 ^ n → t < 2 ^ n →
+        ((j : ℕ) → j < n → bit j s ≡ true → bit j t ≡ true) → worth w i s ≤ worth w i t
     accepted-monotone i s t h g k sub =
         subset-monotone n (worth w i) (λ j x l m. accepted-grows i x j h m l) s t k sub g
 

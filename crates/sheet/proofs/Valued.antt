@@ -1,6 +1,6 @@
 -- Ninety-six worths that are laid out from a table, sixteen to a line: which are 0 (`worth-none`), which the table's
 -- (`worth-there`), that they are `Bounded` as the table is (`laid-bounded`), and the shape of a sheet that has them
--- (`laid-shape`). The worths of any sheet are laid out from its fields (`worths-laid`, `worth-read`). Assumes nothing.
+-- (`laid-shape`). The worths of any sheet are laid out from its fields (`worths-laid`, `worth-read`).
 use mathlib.Core.Path.{_≡_, refl, sym, _∙_}
 use mathlib.Core.List.{List}
 use Prim.Native.Nat.{ℕ, suc, _+_, _*_, _/_, _%_, _^_, _≤_, _<_}

@@ -1,5 +1,5 @@
 -- The bytes of a table are `Written` as the table asks, place by place (`bytes-written`), and no others are
--- (`written-same`). Assumes nothing.
+-- (`written-same`).
 use mathlib.Core.Path.{_≡_, sym, ap, _∙_}
 use mathlib.Core.List.{List, [], _∷_, _++_, append-assoc, append-nil}
 use Prim.Native.Nat.{ℕ, suc, _+_, _-_, _*_, _/_, _%_, _^_, _≤_, _<_}
@@ -53,22 +53,33 @@ module _ (w : Sheet) where
   head-long = line-length (m ∷ n ∷ [])
 
   long : length (bytesOf w) ≡ 13 + m * lineLength n
-  long = length-append head lines ∙ omega (arith, head-long, lines-length row (lineLength n) row-long m 0, mul-comm m (lineLength n))
+  long =
+      length-append head lines ∙ omega (
+        arith,
+        head-long,
+        lines-length row (lineLength n) row-long m 0,
+        mul-comm m (lineLength n),
+      )
 
   -- the first line in its parts
   in-parts : bytesOf w ≡ columns 6 m ++ (columns 6 n ++ (10 ∷ lines))
   in-parts =
       ap (λ x. ((columns 6 m ++ x) ++ (10 ∷ [])) ++ lines) (append-nil (columns 6 n))
-      ∙ append-assoc (columns 6 m ++ columns 6 n) (10 ∷ []) lines ∙ append-assoc (columns 6 m) (columns 6 n) (10 ∷ lines)
+      ∙ append-assoc (columns 6 m ++ columns 6 n) (10 ∷ []) lines
+      ∙ append-assoc (columns 6 m) (columns 6 n) (10 ∷ lines)
 
   past-buyers : drop 6 (bytesOf w) ≡ columns 6 n ++ (10 ∷ lines)
   past-buyers = ap (drop 6) in-parts ∙ drop-at (columns 6 m) (columns 6 n ++ (10 ∷ lines)) 6 (columns-length 6 m)
 
   past-lots : drop 12 (bytesOf w) ≡ 10 ∷ lines
-  past-lots = sym (drop-drop 6 6 (bytesOf w)) ∙ ap (drop 6) past-buyers ∙ drop-at (columns 6 n) (10 ∷ lines) 6 (columns-length 6 n)
+  past-lots =
+      sym (drop-drop 6 6 (bytesOf w)) ∙ ap (drop 6) past-buyers
+      ∙ drop-at (columns 6 n) (10 ∷ lines) 6 (columns-length 6 n)
 
   -- what stands from a place on
-  from-place : (i c : ℕ) → i < m → c ≤ size → drop (offset n i c) (bytesOf w) ≡ fieldsOf (tabulate (size - c) (1 + c) (worth w i)) ++ (10 ∷ linesOf (tabulate (m - suc i) (suc i) row))
+  from-place : (i c : ℕ) → i < m → c ≤ size →
+      drop (offset n i c) (bytesOf w)
+      ≡ fieldsOf (tabulate (size - c) (1 + c) (worth w i)) ++ (10 ∷ linesOf (tabulate (m - suc i) (suc i) row))
   from-place i c h g =
       let rest = linesOf (tabulate (m - suc i) (suc i) row) in
       let one : m - i ≡ suc (m - suc i) = omega arith in
@@ -77,7 +88,8 @@ module _ (w : Sheet) where
       ∙ drop-append-add head lines (i * lineLength n + 6 * c)
       ∙ sym (drop-drop (6 * c) (i * lineLength n) lines)
       ∙ ap (drop (6 * c))
-      (lines-drop row (lineLength n) row-long m 0 i (omega arith) ∙ rw (one, zero-add i) (append-assoc (fieldsOf (row i)) (10 ∷ []) rest))
+      (lines-drop row (lineLength n) row-long m 0 i (omega arith)
+      ∙ rw (one, zero-add i) (append-assoc (fieldsOf (row i)) (10 ∷ []) rest))
       ∙ fields-drop size _ (worth w i) (10 ∷ rest) c g
 
   pub bytes-written : Written (bytesOf w) w
@@ -93,14 +105,17 @@ module _ (w : Sheet) where
             let rest = linesOf (tabulate (m - suc i) (suc i) row) in
             let later = fieldsOf (tabulate (size - suc c) (suc (suc c)) (worth w i)) in
             let there : drop (offset n i c) (bytesOf w) ≡ columns 6 (worth w i (suc c)) ++ (later ++ (10 ∷ rest)) =
-            rw (more, next) at (from-place i c h (omega arith)) ∙ append-assoc (columns 6 (worth w i (suc c))) later (10 ∷ rest) in
+            rw (more, next) at (from-place i c h (omega arith))
+            ∙ append-assoc (columns 6 (worth w i (suc c))) later (10 ∷ rest) in
             ap (take 6) there
             ∙ take-at (columns 6 (worth w i (suc c))) (later ++ (10 ∷ rest)) 6 (columns-length 6 (worth w i (suc c)));
         ends = λ i h.
             let none : size - size ≡ 0 = omega arith in
             let same : offset n i size + 0 ≡ offset n i size = omega arith in
-            let end : drop (offset n i size) (bytesOf w) ≡ 10 ∷ linesOf (tabulate (m - suc i) (suc i) row) = rw none at (from-place i size h (omega arith)) in
-            ap (λ k. getD (bytesOf w) k 0) (sym same) ∙ sym (getD-drop (offset n i size) (bytesOf w) 0 0) ∙ ap (λ l. getD l 0 0) end;
+            let end : drop (offset n i size) (bytesOf w) ≡ 10 ∷ linesOf (tabulate (m - suc i) (suc i) row) =
+            rw none at (from-place i size h (omega arith)) in
+            ap (λ k. getD (bytesOf w) k 0) (sym same) ∙ sym (getD-drop (offset n i size) (bytesOf w) 0 0)
+            ∙ ap (λ l. getD l 0 0) end;
       }
 
 -- bytes that are written as the same table asks are the same
@@ -118,12 +133,15 @@ module _ (w : Sheet) (b c : List ℕ) (p : Written b w) (q : Written c w) where
       let i = x / wide in
       let r = x % wide in
       let whole = div-add-mod' x wide in
-      let less : i < w .buyers = div-lt-iff-lt-mul {k = wide} {x = x} {y = w .buyers} (omega arith) .1 (omega (arith, p .long)) in
+      let less : i < w .buyers =
+      div-lt-iff-lt-mul {k = wide} {x = x} {y = w .buyers} (omega arith) .1 (omega (arith, p .long)) in
       let short : r < wide = mod-lt x (omega arith) in
       elim (decLt r (6 * size)) [
         | yes g ↦
             let place : suc (r / 6) < 2 ^ w .lots = omega (arith, pow-some (w .lots)) in
-            six-same (offset (w .lots) i (r / 6)) (r % 6) j (p .worths i (r / 6) less place ∙ sym (q .worths i (r / 6) less place)) (omega arith) (omega (arith, whole))
+            six-same (offset (w .lots) i (r / 6)) (r % 6) j
+            (p .worths i (r / 6) less place ∙ sym (q .worths i (r / 6) less place)) (omega arith)
+            (omega (arith, whole))
         | no g ↦
             let to : offset (w .lots) i size ≡ j = omega (arith, whole) in
             ap (λ k. getD b k 0) (sym to) ∙ p .ends i less ∙ sym (q .ends i less) ∙ ap (λ k. getD c k 0) to

@@ -1,4 +1,5 @@
--- What the public functions that read a sheet answer, refused or not: `worthsRead`, `sheetRead`. (`fieldRead` stands in Fields.)
+-- What the public functions that read a sheet answer, refused or not: `worthsRead`, `sheetRead`. (`fieldRead` stands in
+-- Fields.)
 use mathlib.Core.List.{List}
 use Prim.Native.Nat.{ℕ}
 use lib.ListN.{replicate}
@@ -29,4 +30,5 @@ worthsRead b = worthsBy (sheetFault b) (sheetOf b)
 
 -- the same without the worths
 unfoldable pub sheetRead : List ℕ → Read
-sheetRead b = let r = worthsRead b in record { number = r .number; place = r .place; buyers = r .buyers; lots = r .lots }
+sheetRead b =
+    let r = worthsRead b in record { number = r .number; place = r .place; buyers = r .buyers; lots = r .lots }

@@ -32,7 +32,8 @@ questions b w =
     ∷ (((i c : ℕ) → i < w .buyers → suc c < 2 ^ w .lots → GoodField b (startOf (w .lots) i c))
     × ((i : ℕ) → i < w .buyers → getD b (startOf (w .lots) i (2 ^ w .lots - 1)) 0 ≡ 10))
     ∷ ((i s : ℕ) → i < w .buyers → s < 2 ^ w .lots → worth w i s ≤ 9999)
-    ∷ ((i s j : ℕ) → i < w .buyers → s < 2 ^ w .lots → j < w .lots → bit j s ≡ true → s ≢ 2 ^ j → worth w i (s - 2 ^ j) ≤ worth w i s)
+    ∷ ((i s j : ℕ) → i < w .buyers → s < 2 ^ w .lots → j < w .lots → bit j s ≡ true → s ≢ 2 ^ j →
+    worth w i (s - 2 ^ j) ≤ worth w i s)
     ∷ []
 
 abbrev pub Question : List ℕ → ℕ → Type 0
@@ -49,7 +50,9 @@ module _ (w : Sheet) (i c : ℕ) where
   TooLarge = (suc c < 2 ^ w .lots) × (9999 < worth w i (suc c))
 
   abbrev pub Falls : Type 0
-  Falls = (suc c < 2 ^ w .lots) × ((j : ℕ) × (j < w .lots) × (bit j (suc c) ≡ true) × (worth w i (suc c) < worth w i (suc c - 2 ^ j)))
+  Falls =
+      (suc c < 2 ^ w .lots) × ((j : ℕ) × (j < w .lots) × (bit j (suc c) ≡ true)
+      × (worth w i (suc c) < worth w i (suc c - 2 ^ j)))
 
 -- p is the offset of a place that is wrong, and of the first that is
 pub record WrongAt (w : Sheet) (T : ℕ → ℕ → Type 0) (p : ℕ) : Type 0 where
@@ -83,27 +86,35 @@ pub record Shape (w : Sheet) : Type 0 where
 
 -- a bundle is worth at least as much as with one lot fewer
 abbrev pub Grows : Sheet → Type 0
-Grows w = (i s j : ℕ) → i < w .buyers → s < 2 ^ w .lots → j < w .lots → bit j s ≡ true → worth w i (s - 2 ^ j) ≤ worth w i s
+Grows w =
+    (i s j : ℕ) → i < w .buyers → s < 2 ^ w .lots → j < w .lots → bit j s ≡ true → worth w i (s - 2 ^ j) ≤ worth w i s
 
 -- of any bytes b
 pub record Sheets : Type 0 where
   -- a field has the number v exactly if its six bytes are those in which v is written
-  pub field-canonical : (b : List ℕ) (at v : ℕ) → (fieldAt at b ≡ Number v) ↔ ((at + 6 ≤ length b) × (v ≤ 999999) × (take 6 (drop at b) ≡ columns 6 v))
+  pub field-canonical : (b : List ℕ) (at v : ℕ) →
+      (fieldAt at b ≡ Number v) ↔ ((at + 6 ≤ length b) × (v ≤ 999999) × (take 6 (drop at b) ≡ columns 6 v))
   -- the number is that of the first question that gets a "no"
-  pub first-no : (b : List ℕ) (k : ℕ) → 1 ≤ k → (sheetFault b .number ≡ k) ↔ (((j : ℕ) → j < k → Question b j) × (Question b k → ⊥))
+  pub first-no : (b : List ℕ) (k : ℕ) → 1 ≤ k →
+      (sheetFault b .number ≡ k) ↔ (((j : ℕ) → j < k → Question b j) × (Question b k → ⊥))
   pub all-yes : (b : List ℕ) → (sheetFault b .number ≡ 0) ↔ ((k : ℕ) → Question b k)
   pub refusal-range : (b : List ℕ) → sheetFault b .number ≤ 8
   -- the place is 0, or with 6, 7 and 8 the least offset of what is wrong
   pub place-zero : (b : List ℕ) → sheetFault b .number < 6 → sheetFault b .place ≡ 0
-  pub place-inside : (b : List ℕ) → 6 ≤ sheetFault b .number → (13 ≤ sheetFault b .place) × (sheetFault b .place < length b)
+  pub place-inside : (b : List ℕ) → 6 ≤ sheetFault b .number →
+      (13 ≤ sheetFault b .place) × (sheetFault b .place < length b)
   pub place-least : (b : List ℕ) → Placed b (sheetFault b .number) (sheetFault b .place)
-  -- an accepted sheet is a table of worths that grow, as it is written; and every such table, so written, is accepted and read as it is
+  -- an accepted sheet is a table of worths that grow, as it is written; and every such table, so written, is accepted
+  -- and read as it is
   pub accepted-shape : (b : List ℕ) → sheetFault b .number ≡ 0 → Shape (sheetOf b)
-  pub accepted-monotone : (b : List ℕ) → sheetFault b .number ≡ 0 → let w = sheetOf b in (i s t : ℕ) → i < w .buyers → s < 2 ^ w .lots → t < 2 ^ w .lots →
+  pub accepted-monotone : (b : List ℕ) → sheetFault b .number ≡ 0 → let w = sheetOf b in
+      (i s t : ℕ) → i < w .buyers → s < 2 ^ w .lots → t < 2 ^ w .lots →
       ((j : ℕ) → j < w .lots → bit j s ≡ true → bit j t ≡ true) → worth w i s ≤ worth w i t
   pub accepted-bytes : (b : List ℕ) → sheetFault b .number ≡ 0 → b ≡ bytesOf (sheetOf b)
-  pub bytes-accepted : (w : Sheet) → Shape w → Grows w → (sheetFault (bytesOf w) .number ≡ 0) × (sheetOf (bytesOf w) ≡ w)
-  -- a sheet with bytes missing at its end is refused; one of 560 bytes or more is, and those after them make no difference
+  pub bytes-accepted : (w : Sheet) → Shape w → Grows w →
+      (sheetFault (bytesOf w) .number ≡ 0) × (sheetOf (bytesOf w) ≡ w)
+  -- a sheet with bytes missing at its end is refused; one of 560 bytes or more is, and those after them make no
+  -- difference
   pub prefix-refused : (a c : List ℕ) → sheetFault (a ++ c) .number ≡ 0 → 0 < length c → sheetFault a .number ≢ 0
   pub long-refused : (b : List ℕ) → 560 ≤ length b → sheetFault b .number ≢ 0
   pub long-alike : (a c : List ℕ) → 560 ≤ length a → sheetFault (a ++ c) ≡ sheetFault a

@@ -55,7 +55,8 @@ module _ (w : Sheet) (i c : ℕ) where
   isField = ltb (suc c) (2 ^ w .lots)
 
   abbrev pub malformed : List ℕ → Bool
-  malformed b = pick isField (not (good (fieldAt (offset (w .lots) i c) b))) (not (eqb (getD b (offset (w .lots) i c) 0) 10))
+  malformed b =
+      pick isField (not (good (fieldAt (offset (w .lots) i c) b))) (not (eqb (getD b (offset (w .lots) i c) 0) 10))
 
   abbrev pub tooLarge : Bool
   tooLarge = isField && ltb 9999 (worth w i (suc c))

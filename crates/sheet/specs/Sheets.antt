@@ -1,6 +1,6 @@
--- What the bytes of a lot sheet say: where each field stands, and the sheet's buyers, lots and worths (`sheetOf`), whether or not it is accepted; and the
--- bytes in which such numbers are written (`bytesOf`).
--- Lines of worths are counted from 0, so buyer i has line i - 1; the places of a line from 0, so bundle s has place s - 1.
+-- What the bytes of a lot sheet say: where each field stands, and the sheet's buyers, lots and worths (`sheetOf`),
+-- whether or not it is accepted; and the bytes in which such numbers are written (`bytesOf`). Lines of worths are
+-- counted from 0, so buyer i has line i - 1; the places of a line from 0, so bundle s has place s - 1.
 use mathlib.Core.Bool.{_&&_}
 use mathlib.Core.List.{List, [], _∷_}
 use Prim.Native.Nat.{ℕ, zero, suc, _+_, _-_, _*_, _/_, _%_, _^_}
@@ -14,11 +14,13 @@ use Rattle.fields.specs.Fields.{numberAt, linesOf}
 abbrev pub lineLength : ℕ → ℕ
 lineLength n = 6 * (2 ^ n - 1) + 1
 
--- where place c of line i begins: the field of bundle c + 1, or the line end for c = 2 ^ n - 1. The first line has 13 bytes.
+-- where place c of line i begins: the field of bundle c + 1, or the line end for c = 2 ^ n - 1. The first line has 13
+-- bytes.
 abbrev pub offset : ℕ → ℕ → ℕ → ℕ
 offset n i c = 13 + (i * lineLength n + 6 * c)
 
--- buyers, lots, and ninety-six worths (valuations), sixteen to a buyer; those of the empty bundle, absent bundles and absent buyers are 0
+-- buyers, lots, and ninety-six worths (valuations), sixteen to a buyer; those of the empty bundle, absent bundles and
+-- absent buyers are 0
 pub record Sheet : Type 0 where
   pub buyers : ℕ
   pub lots : ℕ

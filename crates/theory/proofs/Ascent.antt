@@ -12,7 +12,8 @@ use lib.Dec.{leb}
 use borrow.Author.Tests.{leb-true, leb-false}
 use Rattle.theory.specs.Sums.{when}
 use Rattle.theory.specs.Lists.{_∈_, most}
-use Rattle.theory.specs.Markets.{Market, Table, Bidder, sumOf, total, Equilibrium, Fits, Monotone, Drops, only, asks, lower}
+use Rattle.theory.specs.Markets.{Market, Table, Bidder, sumOf, total, Equilibrium, Fits, Monotone, Drops, only}
+use Rattle.theory.specs.Markets.{asks, lower}
 use Rattle.theory.proofs.Tests.{by-test}
 use Rattle.theory.proofs.Sums.{sum-mono, sum-same, sum-add}
 use Rattle.theory.proofs.Lists.{most-upper, most-is, most-reached}

@@ -11,7 +11,8 @@ use Rattle.theory.specs.Sums.{when}
 use Rattle.theory.specs.Lists.{keep, tabulate}
 use Rattle.theory.specs.Rounds.{choices, after}
 use Rattle.theory.specs.Markets.{Market, Table, worthPay, discount, pricePay, asks}
-use Rattle.theory.specs.Auction.{whole, lacking, Quote, closing, direct, own, Auction, chosen, start, round, rounds}
+use Rattle.theory.specs.Auction.{whole, lacking, Quote, closing, direct, own, Auction, chosen, start, round}
+use Rattle.theory.specs.Auction.{rounds}
 use Rattle.theory.specs.Coalitions.{worthOf, rosterOf, lowestBy}
 
 abbrev Owners : Type 0

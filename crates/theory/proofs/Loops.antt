@@ -1,7 +1,7 @@
 -- Loops over a range: what a definition over it still has to do from k on. Offers one law for each way through a loop
 -- that looks for the first that passes (`least`), that tests all (`every`), that takes in one number after another
 -- (`most`, `sum`, `some`, `every`, and `sum` counting down), that fills a list place by place (`Filled`, `tabulate`),
--- and that goes over one place by place (`Revised`). Assumes nothing.
+-- and that goes over one place by place (`Revised`).
 use mathlib.Core.Path.{_≡_, refl, sym, ap, subst, _∙_}
 use mathlib.Core.Logic.{⊎-elim}
 use mathlib.Core.Bool.{Bool, true, false, _&&_, _||_}
@@ -109,7 +109,8 @@ pub record Filled (f : ℕ → ℕ) (n k : ℕ) (l : List ℕ) : Type 0 where
 pub filled-none : (f : ℕ → ℕ) (n : ℕ) (l : List ℕ) → length l ≡ n → Filled f n 0 l
 filled-none f n l e = record { long = e; done = λ j h. absurd (omega arith) }
 
-pub filled-more : (f : ℕ → ℕ) (n k v : ℕ) (l : List ℕ) → k < n → v ≡ f k → Filled f n k l → Filled f n (k + 1) (set l k v)
+pub filled-more : (f : ℕ → ℕ) (n k v : ℕ) (l : List ℕ) → k < n → v ≡ f k → Filled f n k l →
+    Filled f n (k + 1) (set l k v)
 filled-more f n k v l h e g =
     record {
       long = length-set l k v ∙ g .long;
@@ -122,7 +123,8 @@ filled-more f n k v l h e g =
 pub filled-all : (f : ℕ → ℕ) (n k : ℕ) (l : List ℕ) → n ≤ k → Filled f n k l → l ≡ tabulate n 0 f
 filled-all f n k l h g =
     ext-getD 0 l (tabulate n 0 f) (g .long ∙ sym (tabulate-length n 0 f))
-    (λ j q. g .done j (omega (arith, g .long)) ∙ sym (tabulate-at n 0 f j 0 (omega (arith, g .long)) ∙ ap f (zero-add j)))
+    (λ j q. g .done j (omega (arith, g .long))
+    ∙ sym (tabulate-at n 0 f j 0 (omega (arith, g .long)) ∙ ap f (zero-add j)))
 
 pub filled-tabulate : (f : ℕ → ℕ) (n : ℕ) → Filled f n n (tabulate n 0 f)
 filled-tabulate f n =

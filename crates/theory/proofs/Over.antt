@@ -1,5 +1,5 @@
--- Lists written over others: what stands where (`over-early`, `over-late`, `over-long`), one number more (`over-more`), and a part lent from n on that comes
--- back with more written at its front (`over-then`). Assumes nothing.
+-- Lists written over others: what stands where (`over-early`, `over-late`, `over-long`), one number more (`over-more`),
+-- and a part lent from n on that comes back with more written at its front (`over-then`).
 use mathlib.Core.Path.{_≡_, refl, ap, _∙_}
 use mathlib.Core.List.{List, [], _∷_, _++_, append-assoc, append-nil}
 use Prim.Native.Nat.{ℕ, _+_, _-_, _≤_, _<_}
@@ -22,7 +22,8 @@ over-late xs ys k h =
 pub over-long : (xs ys : List ℕ) → length xs ≤ length ys → length (over xs ys) ≡ length ys
 over-long xs ys h = rw (length-append, length-drop) (omega arith)
 
-pub over-more : (xs ys : List ℕ) (b n : ℕ) → length xs ≡ n → n < length ys → set (over xs ys) n b ≡ over (xs ++ (b ∷ [])) ys
+pub over-more : (xs ys : List ℕ) (b n : ℕ) → length xs ≡ n → n < length ys →
+    set (over xs ys) n b ≡ over (xs ++ (b ∷ [])) ys
 over-more xs ys b n e h =
     rw (e, drop-cons ys n 0 h, ← e, set-append-seam, length-append, add-one, append-assoc) refl
 
@@ -32,7 +33,9 @@ pub over-then : (xs ys o l last : List ℕ) (n : ℕ) → length xs ≡ n → n 
 over-then xs ys o l last n en h e g =
     let len : length l ≡ length o = ap length e ∙ over-long xs o (omega arith) in
     let d : drop n l ≡ drop n o = rw e (drop-at xs (drop (length xs) o) n en ∙ rw en refl) in
-    let t : take (length l - n) (drop n l) ≡ drop n o = rw d (take-all (length l - n) (drop n o) (rw length-drop (omega arith))) in
-    let p : drop (length l - n) (drop n l) ≡ [] = rw d (drop-of-length-le (drop n o) {i = length l - n} (rw length-drop (omega arith))) in
+    let t : take (length l - n) (drop n l) ≡ drop n o =
+    rw d (take-all (length l - n) (drop n o) (rw length-drop (omega arith))) in
+    let p : drop (length l - n) (drop n l) ≡ [] =
+    rw d (drop-of-length-le (drop n o) {i = length l - n} (rw length-drop (omega arith))) in
     let k : take n l ≡ xs = rw e (take-at xs (drop (length xs) o) n en) in
     rw (k, p, append-nil, g, t, append-assoc, length-append, en, drop-drop) refl

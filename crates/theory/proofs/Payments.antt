@@ -8,7 +8,8 @@ use Prim.Native.Nat.{ℕ, _+_}
 use native.Mathlib.Omega.{arith}
 use borrow.Author.Tests.{eq-eqb, ne-eqb}
 use Rattle.theory.specs.Lists.{_∈_, most}
-use Rattle.theory.specs.Markets.{Market, Table, Bidder, sumOf, total, Efficient, Covered, Equilibrium, Pays, worthPay, discount, pricePay, Monotone, Leaves, without, only}
+use Rattle.theory.specs.Markets.{Market, Table, Bidder, sumOf, total, Efficient, Covered, Equilibrium, Pays}
+use Rattle.theory.specs.Markets.{worthPay, discount, pricePay, Monotone, Leaves, without, only}
 use Rattle.theory.proofs.Sums.{sum-but, sum-swap}
 use Rattle.theory.proofs.Lists.{most-upper, most-subset}
 use Rattle.theory.proofs.Duality.{duality}

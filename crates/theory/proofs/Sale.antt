@@ -10,11 +10,14 @@ use borrow.Author.Tests.{not-false}
 use Rattle.theory.specs.Sums.{when}
 use Rattle.theory.specs.Lists.{_∈_, sumOver}
 use Rattle.theory.specs.Markets.{Market, Table, Bidder, sumOf, Fits, asks}
-use Rattle.theory.specs.Auction.{Economy, everyone, undersupplied, Truthful, own, Auction, Ready, Proper, Modest, Settled, chosen, round, rounds, last, size}
-use Rattle.theory.proofs.Tests.{by-test, fails, itself, and-means, not-means, leb-means, every-means, every-fails}
+use Rattle.theory.specs.Auction.{Economy, everyone, undersupplied, Truthful, own, Auction, Ready, Proper, Modest}
+use Rattle.theory.specs.Auction.{Settled, chosen, round, rounds, last, size}
+use Rattle.theory.proofs.Tests.{by-test, fails, itself, and-means, not-means, leb-means, every-means}
+use Rattle.theory.proofs.Tests.{every-fails}
 use Rattle.theory.proofs.Sums.{sum-part}
 use Rattle.theory.proofs.Ascent.{some-fits, lower-sum}
-use Rattle.theory.proofs.Auction.{Suits, supplied-means, undersupplied-means, lowest-least, lowest-found, fits-means, own-truthful}
+use Rattle.theory.proofs.Auction.{Suits, supplied-means, undersupplied-means, lowest-least, lowest-found}
+use Rattle.theory.proofs.Auction.{fits-means, own-truthful}
 use Rattle.theory.proofs.Rounds.{choices-settle, choices-few, choices-sizes}
 
 module _ {A : Type 0} (X : Auction A) (ready : Ready X) (v : Table) (proper : Proper X v) where

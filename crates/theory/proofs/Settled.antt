@@ -9,8 +9,10 @@ use Prim.Native.Nat.{ℕ}
 use native.Mathlib.Omega.{arith}
 use lib.Dec.{eqb}
 use Rattle.theory.specs.Lists.{_∈_, most, Ordered}
-use Rattle.theory.specs.Markets.{Market, Table, Bidder, total, Efficient, Covered, Equilibrium, Pays, Exact, worthPay, pricePay, only}
-use Rattle.theory.specs.Auction.{Economy, whole, lacking, Quote, closes, closing, direct, Truthful, Absent, Auction, Buyer, Settlement}
+use Rattle.theory.specs.Markets.{Market, Table, Bidder, total, Efficient, Covered, Equilibrium, Pays, Exact}
+use Rattle.theory.specs.Markets.{worthPay, pricePay, only}
+use Rattle.theory.specs.Auction.{Economy, whole, lacking, Quote, closes, closing, direct, Truthful, Absent}
+use Rattle.theory.specs.Auction.{Auction, Buyer, Settlement}
 use Rattle.theory.proofs.Tests.{by-test, eqb-means, same-test, fails}
 use Rattle.theory.proofs.Lists.{most-reached, first-same, first-in, first-passes, first-before}
 use Rattle.theory.proofs.Duality.{efficient-equilibrium}

@@ -10,7 +10,8 @@ use lib.Dec.{eqb, leb}
 use Rattle.theory.specs.Sums.{when}
 use Rattle.theory.specs.Lists.{_∈_, most, first}
 use Rattle.theory.specs.Tests.{_⊃_, every, some, least}
-use Rattle.theory.specs.Markets.{Market, Table, Bidder, total, Covered, Monotone, Leaves, Drops, asks, lower, without, sumOf}
+use Rattle.theory.specs.Markets.{Market, Table, Bidder, total, Covered, Monotone, Leaves, Drops, asks, lower}
+use Rattle.theory.specs.Markets.{without, sumOf}
 use Rattle.theory.specs.Rounds.{choices, after}
 
 -- allocations among some of the bidders

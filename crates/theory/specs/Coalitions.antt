@@ -1,7 +1,7 @@
 -- At a sale's own prices the rounds need one number for each set of bidders, a greatest total of what only they hold.
--- Offers `worthOf`, the record `Values` of such numbers, and `lowestBy`, the lowest undersupplied set by them, which asks
--- no more of an auction than its `Roster`.
--- Differences are kept `shift` higher, so that none is negative where the payoffs come to at most `shift`.
+-- Offers `worthOf`, the record `Values` of such numbers, and `lowestBy`, the lowest undersupplied set by them, which
+-- asks no more of an auction than its `Roster`. Differences are kept `shift` higher, so that none is negative where the
+-- payoffs come to at most `shift`.
 use mathlib.Core.Path.{_≡_}
 use mathlib.Core.Logic.{_⊎_}
 use mathlib.Core.Bool.{Bool, false, not, _&&_, _||_}
@@ -50,8 +50,8 @@ module _ {A : Type 0} (X : Auction A) where
         (value n ≡ 0) ⊎
         ((a : A) × (a ∈ al) × HeldBy (X .market) (X .member n) a × (value n ≤ total (X .market) v a))
 
--- all that the rounds by values ask of an auction: who bids, the sets of bidders by their numbers, and who is present in
--- each economy
+-- all that the rounds by values ask of an auction: who bids, the sets of bidders by their numbers, and who is present
+-- in each economy
 pub record Roster : Type 0 where
   pub many : ℕ
   pub low : ℕ

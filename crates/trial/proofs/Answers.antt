@@ -1,6 +1,6 @@
 -- What `trial_sheet` answers, on each way through: a refusal (`says-refused`), or what its list's writing answers
--- (`says-written`), since that is asked as the trial is (`asked-alike`); and what `TrialSays` tells of an answer.
--- Assumes nothing.
+-- (`says-written`), since that is asked as the trial is (`asked-alike`); and what `TrialSays` tells of an answer
+-- (`trial-told`, `told-writes`).
 use mathlib.Core.Path.{_≡_, sym, ap, ap₂, _∙_}
 use mathlib.Core.Logic.{_≢_}
 use mathlib.Core.Bool.{true}
@@ -9,17 +9,18 @@ use Prim.Native.Nat.{ℕ, zero, suc, _+_, _-_, _*_, _^_, _≤_, _<_}
 use native.Mathlib.Omega.{arith}
 use native.Mathlib.Decide.{decLe}
 use lib.ListN.{length}
-use borrow.Author.Tests.{eq-eqb, ne-eqb, le-leb, lt-leb}
+use borrow.Author.Tests.{ne-eqb, le-leb, lt-leb}
 use Rattle.theory.specs.Sums.{pick, when}
 use Rattle.theory.specs.Lists.{over}
 use Rattle.sheet.specs.declared.Fault.{Fault}
 use Rattle.sheet.specs.Sheets.{lineLength}
-use Rattle.sheet.specs.Questions.{fault, accepts, ask, between}
+use Rattle.sheet.specs.Questions.{fault, ask, between}
 use Rattle.sheet.proofs.Faults.{between-means}
 use Rattle.writing.specs.declared.Wrote.{Wrote}
 use Rattle.writing.specs.Lists.{sheetBytes}
 use Rattle.writing.specs.Answers.{writeFault, WriteSays}
 use Rattle.writing.specs.Claims.{ListQuestion}
+use Rattle.writing.proofs.Answers.{wrote, answerBy, bufferBy, Told, told}
 use Rattle.writing.proofs.Questions.{write-first-no, write-all-yes, write-place}
 use Rattle.trial.specs.Worths.{trialList}
 use Rattle.trial.specs.Answers.{trialFault, trialBytes, TrialSays}
@@ -70,16 +71,6 @@ module _ (N m n top room : ℕ) (q3 : between 6 m ≡ true) (q4 : between 4 n �
       all-asked h (suc (suc (suc (suc (suc zero))))) = h
       all-asked h (suc (suc (suc (suc (suc (suc j)))))) = tt
 
-abbrev wrote : ℕ → ℕ → ℕ → Wrote
-wrote number place long = record { number = number; place = place; length = long }
-
--- the answer and the buffer, by the fault and the bytes of the sheet
-abbrev answerBy : Fault → List ℕ → Wrote
-answerBy f b = wrote (f .number) (f .place) (when (accepts f) (length b))
-
-abbrev bufferBy : Fault → List ℕ → List ℕ → List ℕ
-bufferBy f b o = pick (accepts f) (over b o) o
-
 module _ (N m n top : ℕ) (o : List ℕ) where
   abbrev f : Fault
   f = trialFault m n top (length o)
@@ -106,37 +97,22 @@ module _ (N m n top : ℕ) (o : List ℕ) where
         bytes = says .bytes ∙ ap₂ (λ x l. bufferBy x l o) alike same;
       }
 
-  -- the other way round
-  module _ (o′ : List ℕ) (r : Wrote) (says : TrialSays N m n top o o′ r) where
-    pub told-number : r .number ≡ f .number
-    told-number = ap (λ (x : Wrote). x .number) (says .answer)
+-- the other way round
+module _ {N m n top : ℕ} {o o′ : List ℕ} {r : Wrote} (says : TrialSays N m n top o o′ r) where
+  pub trial-told : Told (trialFault m n top (length o)) (trialBytes N m n top) o o′ r
+  trial-told =
+      told (trialFault m n top (length o)) (trialBytes N m n top) o o′ r (trial-place-none m n top (length o))
+      (says .answer) (says .bytes)
 
-    pub told-place : r .place ≡ 0
-    told-place = ap (λ (x : Wrote). x .place) (says .answer) ∙ trial-place-none m n top (length o)
-
-    pub told-refused : r .number ≢ 0 → (r .length ≡ 0) × (o′ ≡ o)
-    told-refused h =
-        let t = ne-eqb (f .number) 0 (λ z. h (told-number ∙ z)) in (
-          ap (λ (x : Wrote). x .length) (says .answer) ∙ ap (λ x. when x (length b)) t,
-          says .bytes ∙ ap (λ x. pick x (over b o) o) t,
-        )
-
-    pub told-written : r .number ≡ 0 → (r .length ≡ length b) × (o′ ≡ over b o)
-    told-written z =
-        let t = eq-eqb (f .number) 0 (sym told-number ∙ z) in (
-          ap (λ (x : Wrote). x .length) (says .answer) ∙ ap (λ x. when x (length b)) t,
-          says .bytes ∙ ap (λ x. pick x (over b o) o) t,
-        )
-
-    -- a list that is drawn, and written
-    pub told-writes : r .number ≡ 0 → WriteSays m n (trialList N m n top) o o′ r
-    unfolding trialBytes
-    told-writes z =
-        let yes-to = trial-all-yes m n top (length o) .0 (sym told-number ∙ z) in
-        let buyers = between-means 6 m .1 (yes-to 0) in
-        let lots = between-means 4 n .1 (yes-to 1) in
-        let alike = sym (asked-alike N m n top (length o) buyers lots (yes-to 2)) in
-        record {
-          answer = says .answer ∙ ap (λ x. answerBy x b) alike;
-          bytes = says .bytes ∙ ap (λ x. bufferBy x b o) alike;
-        }
+  -- a list that is drawn, and written
+  pub told-writes : r .number ≡ 0 → WriteSays m n (trialList N m n top) o o′ r
+  unfolding trialBytes
+  told-writes z =
+      let yes-to = trial-all-yes m n top (length o) .0 (sym (trial-told .number) ∙ z) in
+      let buyers = between-means 6 m .1 (yes-to 0) in
+      let lots = between-means 4 n .1 (yes-to 1) in
+      let alike = sym (asked-alike N m n top (length o) buyers lots (yes-to 2)) in
+      record {
+        answer = says .answer ∙ ap (λ x. answerBy x (trialBytes N m n top)) alike;
+        bytes = says .bytes ∙ ap (λ x. bufferBy x (trialBytes N m n top) o) alike;
+      }

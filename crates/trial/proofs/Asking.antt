@@ -1,5 +1,4 @@
 -- The questions of a trial, in their order: what each answer on the way through `trial_sheet` says of the fault.
--- Assumes nothing.
 use mathlib.Core.Path.{_≡_}
 use mathlib.Core.Bool.{true, false}
 use Prim.Native.Nat.{ℕ, _+_, _*_, _≤_, _<_}

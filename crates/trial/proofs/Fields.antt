@@ -1,6 +1,6 @@
 -- Bytes that are four numbers in six columns each, the first of them a sheet's number: what `is_asked` finds on each
 -- way through (`not-long`, `not-good`, `all-good`); that these bytes and no others are asked, and what their numbers
--- are (`typed-asked`, `asked-typed`). Assumes nothing.
+-- are (`typed-asked`, `asked-typed`).
 use mathlib.Core.Path.{_≡_, refl, sym, ap, _∙_}
 use mathlib.Core.Logic.{_≢_}
 use mathlib.Core.Bool.{Bool, true, false}
@@ -9,17 +9,16 @@ use Prim.Native.Nat.{ℕ, zero, suc, _*_, _≤_, _<_}
 use native.Mathlib.Omega.{arith}
 use lib.Dec.{leb}
 use lib.ListN.{length, take, drop, getD}
-use lib.Seq.{take-at}
 use borrow.Author.Tests.{eq-eqb, ne-eqb}
 use Rattle.theory.specs.Sums.{Among}
 use Rattle.theory.specs.Tests.{every}
 use Rattle.theory.proofs.Tests.{Means, fails, itself, and-means, eqb-means, leb-means, every-means}
 use Rattle.fields.specs.declared.Field.{Field}
 use Rattle.fields.specs.declared.Field.the-variants.{Number, Faulty}
-use Rattle.fields.specs.Fields.{fieldAt, good, numberOf, numberAt, columns, fieldsOf}
+use Rattle.fields.specs.Fields.{fieldAt, good, numberOf, numberAt, columns}
 use Rattle.fields.proofs.Canonical.{field-canonical}
-use Rattle.fields.proofs.Lines.{columns-length, fields-length}
-use Rattle.writing.proofs.Texts.{field-in, fields-all}
+use Rattle.fields.proofs.Lines.{fields-length}
+use Rattle.fields.proofs.Listed.{listed-read, fields-listed}
 use Rattle.trial.specs.Answers.{trialAsked}
 use Rattle.trial.specs.Claims.{Typed}
 
@@ -55,17 +54,6 @@ good-number (Faulty at) e = fails e refl
 number-is : (f : Field) (v : ℕ) → f ≡ Number v → (good f ≡ true) × (numberOf f ≡ v)
 number-is f v e = (ap good e, ap numberOf e)
 
--- numbers in fields are read as they are
-field-read : (l : List ℕ) (k : ℕ) → k < length l → getD l k 0 ≤ 999999 →
-    fieldAt (6 * k) (fieldsOf l) ≡ Number (getD l k 0)
-field-read l k h small =
-    field-canonical (fieldsOf l) (6 * k) (getD l k 0) .1 (
-      omega (arith, fields-length l),
-      small,
-      ap (take 6) (field-in l k h)
-          ∙ take-at (columns 6 (getD l k 0)) (fieldsOf (drop (suc k) l)) 6 (columns-length 6 (getD l k 0)),
-    )
-
 -- the numbers that the bytes have
 pub record Numbers (b : List ℕ) (N m n top : ℕ) : Type 0 where
   pub asked : trialAsked b ≡ true
@@ -79,7 +67,7 @@ typed-asked b N m n top t =
     let l = N ∷ m ∷ n ∷ top ∷ [] in
     let read : (k : ℕ) → k < 4 → (good (fieldAt (6 * k) b) ≡ true) × (numberAt (6 * k) b ≡ getD l k 0) =
     λ k h. number-is (fieldAt (6 * k) b) (getD l k 0)
-    (ap (fieldAt (6 * k)) (t .bytes) ∙ field-read l k (omega arith) (small k h)) in
+    (ap (fieldAt (6 * k)) (t .bytes) ∙ listed-read l k (omega arith) (small k h)) in
     record {
       asked = asked-means b .1 (
         ap length (t .bytes) ∙ fields-length l,
@@ -109,7 +97,7 @@ asked-typed b e =
     (good-number (fieldAt (6 * k) b) (each k (omega arith))) in
     (small, is) in
     record {
-      bytes = fields-all 4 b (λ k. numberAt (6 * k) b) (omega arith) (λ k h. read k h .1);
+      bytes = fields-listed 4 b (λ k. numberAt (6 * k) b) (omega arith) (λ k h. read k h .1);
       number = number;
       small = (read 1 (omega arith) .0, read 2 (omega arith) .0, read 3 (omega arith) .0);
     }

@@ -1,9 +1,9 @@
 -- The questions put to a trial's numbers: which of them gets the first "no" (`trial-first-no`, `trial-all-yes`,
 -- `trial-numbers`); the number is at most 11 (`trial-range`), the place 0 (`trial-place-none`); from 559 bytes on the
 -- buffer makes no difference (`room-alike`, `never-eleven`), and numbers above 999,999 are refused as that is
--- (`trial-capped`). Assumes nothing.
+-- (`trial-capped`).
 use mathlib.Core.Path.{_≡_, refl, sym, ap, _∙_}
-use mathlib.Core.Logic.{_≢_, _↔_, _⊎_, inl, inr}
+use mathlib.Core.Logic.{_≢_, _↔_, _⊎_}
 use mathlib.Core.Bool.{true}
 use mathlib.Core.List.{List, [], _∷_}
 use Prim.Native.Nat.{ℕ, zero, suc, _+_, _*_, _≤_, _<_}
@@ -17,7 +17,7 @@ use Rattle.sheet.specs.declared.Fault.{Fault}
 use Rattle.sheet.specs.Sheets.{lineLength}
 use Rattle.sheet.specs.Questions.{fault, ask, between}
 use Rattle.sheet.proofs.Faults.{between-means}
-use Rattle.sheet.proofs.Firsts.{FirstNo, first-asked, first-told, Tells, first-none, first-iff}
+use Rattle.sheet.proofs.Firsts.{FirstNo, first-asked, Tells, first-none, first-no, first-number}
 use Rattle.sheet.proofs.Theorems.{ask-cases}
 use Rattle.writing.proofs.Limits.{bytes-small, cap, cap-between}
 use Rattle.trial.specs.Answers.{trialFault}
@@ -53,21 +53,14 @@ module _ (m n top room : ℕ) where
 
   pub trial-first-no : (j : ℕ) → j < 4 → (trialFault m n top room .number ≡ number j)
       ↔ (((i : ℕ) → i < j → TrialQuestion m n top room i) × (TrialQuestion m n top room j → ⊥))
-  trial-first-no j h =
-      let (to, from-no) = first-iff number back (from 0) (trialFault m n top room .number) tells trial-first j
-      (tells j h) in (
-        λ e. let no-at = to e in (no-at .before, no-at .there),
-        λ (before, there). from-no (record { before = before; there = there }),
-      )
+  trial-first-no = first-no number back (from 0) (trialFault m n top room .number) tells trial-first
 
   pub trial-all-yes : (trialFault m n top room .number ≡ 0) ↔ ((j : ℕ) → TrialQuestion m n top room j)
   trial-all-yes = first-none number back (from 0) (trialFault m n top room .number) tells trial-first
 
   pub trial-numbers : (trialFault m n top room .number ≡ 0)
       ⊎ ((j : ℕ) × (j < 4) × (trialFault m n top room .number ≡ number j))
-  trial-numbers =
-      elim (first-told number (from 0) (trialFault m n top room .number) trial-first)
-      [ inl (z, _) ↦ inl z | inr (j, l, e, _) ↦ inr (j, l, e) ]
+  trial-numbers = first-number number back (from 0) (trialFault m n top room .number) tells trial-first
 
   -- a fault has a number up to 11, and the place 0
   fault-cases : (P : Fault → Type 0) → ((k : ℕ) → k ≤ 11 → P (fault k 0)) → P (trialFault m n top room)

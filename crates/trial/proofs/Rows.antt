@@ -1,6 +1,6 @@
 -- A buyer's worths as they are drawn: how many they are (`row-length`), that those drawn once stay (`row-kept`), that
 -- none is above 9,999 (`row-small`), and what `worth_without` answers on each way through (`without-lot`,
--- `without-all`, `without-some`). Assumes nothing.
+-- `without-all`, `without-some`).
 use mathlib.Core.Path.{_≡_, refl, sym, ap, _∙_}
 use mathlib.Core.Logic.{_≢_, ⊎-elim}
 use mathlib.Core.Bool.{Bool, true, false}

@@ -1,5 +1,5 @@
 -- What is written is accepted, and read as the worths that are drawn (`trial-accepted`); it is sold with a record of
--- question 9's sum (`trial-sold`), which is at most 59,994 (`trial-record`). Assumes nothing.
+-- question 9's sum (`trial-sold`), which is at most 59,994 (`trial-record`).
 use mathlib.Core.Path.{_≡_, refl, sym, ap, _∙_}
 use mathlib.Core.Bool.{_&&_}
 use mathlib.Core.List.{List}
@@ -29,7 +29,7 @@ use Rattle.writing.specs.declared.Wrote.{Wrote}
 use Rattle.writing.specs.Lists.{listed, sheetBytes}
 use Rattle.writing.specs.Answers.{WriteSays}
 use Rattle.writing.proofs.Questions.{write-all-yes}
-use Rattle.writing.proofs.Answers.{told-number}
+use Rattle.writing.proofs.Answers.{write-told}
 use Rattle.writing.proofs.Trips.{bytes-accepted, written-read}
 use Rattle.trial.specs.Worths.{trialTable, trialList}
 use Rattle.trial.specs.Answers.{trialBytes, TrialSays}
@@ -57,7 +57,7 @@ module _ (N m n top : ℕ) (o o′ : List ℕ) (r : Wrote) (says : TrialSays N m
   vs = trialList N m n top
 
   writes : WriteSays m n vs o o′ r
-  writes = told-writes N m n top o o′ r says z
+  writes = told-writes says z
 
   pub trial-accepted : (r .length ≡ length (trialBytes N m n top)) × (o′ ≡ over (trialBytes N m n top) o)
       × (worthsRead (take (r .length) o′)
@@ -73,7 +73,7 @@ module _ (N m n top : ℕ) (o o′ : List ℕ) (r : Wrote) (says : TrialSays N m
 
   accepted : sheetFault b .number ≡ 0
   accepted =
-      let none = sym (told-number m n vs o o′ r writes) ∙ z in
+      let none = sym (write-told writes .number) ∙ z in
       let (long, bytes, _) = written-read m n vs o o′ r writes z in
       let front : b ≡ sheetBytes m n vs = ap (take (r .length)) bytes ∙ take-at _ _ (r .length) (sym long) in
       ap (λ l. sheetFault l .number) front

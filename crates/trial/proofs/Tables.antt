@@ -1,6 +1,6 @@
 -- The table that is drawn: what the greatest worth with one lot fewer is (`fewer-upper`, `fewer-reached`); each worth
 -- by that (`trial-worth`), none above 9,999 (`trial-small`), none below those (`trial-grows`); and the list of it,
--- which has as many numbers as a sheet (`list-length`), and these (`list-worth`, `list-small`). Assumes nothing.
+-- which has as many numbers as a sheet (`list-length`), and these (`list-worth`, `list-small`).
 use mathlib.Core.Path.{_≡_, refl, sym, ap, _∙_}
 use mathlib.Core.Bool.{true}
 use mathlib.Core.List.{List}

@@ -1,7 +1,7 @@
 -- What `text_of` answers, of a sheet that is written (`lines-written`) or refused (`lines-refused`); what is printed of
 -- four numbers is what is written of them (`text-says`), and of other bytes nothing is (`text-typed`); it is never long
--- (`text-longest`, `text-within`). Assumes nothing.
-use mathlib.Core.Path.{_≡_, sym, ap, ap₂, _∙_}
+-- (`text-longest`, `text-within`).
+use mathlib.Core.Path.{_≡_, sym, ap, ap₂, subst, _∙_}
 use mathlib.Core.Logic.{_≢_}
 use mathlib.Core.Bool.{true, false}
 use mathlib.Core.List.{List, [], _∷_}
@@ -13,9 +13,9 @@ use lib.Seq.{take-at}
 use borrow.Author.Tests.{eq-eqb, ne-eqb}
 use Rattle.theory.specs.Sums.{pick}
 use Rattle.theory.specs.Lists.{over}
-use Rattle.theory.proofs.Over.{over-long}
 use Rattle.theory.proofs.Tests.{by-test}
 use Rattle.fields.specs.Fields.{lineOf, numberAt}
+use Rattle.printing.proofs.Lines.{front-within}
 use Rattle.fields.proofs.Lines.{line-length}
 use Rattle.sheet.specs.declared.Fault.{Fault}
 use Rattle.sheet.specs.Sheets.{lineLength}
@@ -29,7 +29,7 @@ use Rattle.trial.specs.Answers.{trialTextOf}
 use Rattle.trial.specs.Claims.{Typed}
 use Rattle.trial.proofs.Fields.{typed-asked, asked-typed}
 use Rattle.trial.proofs.Questions.{trial-all-yes, trial-place-none, room-alike, never-eleven}
-use Rattle.trial.proofs.Answers.{told-number, told-place, told-refused, told-written}
+use Rattle.trial.proofs.Answers.{trial-told}
 
 pub bytes-length : (N m n top : ℕ) → length (trialBytes N m n top) ≡ 13 + m * lineLength n
 unfolding trialBytes
@@ -71,25 +71,25 @@ module _ (N m n top : ℕ) where
 
   module _ (o′ : List ℕ) (w : Wrote) (says : TrialSays N m n top zeros o′ w) where
     pub refused-long : w .number ≢ 0 → length o′ ≡ 559
-    refused-long h = ap length (told-refused N m n top zeros o′ w says h .1) ∙ length-replicate {A = ℕ} 559 0
+    refused-long h = ap length (trial-told says .refused h .1) ∙ length-replicate {A = ℕ} 559 0
 
     pub place-none : w .place ≡ 0
-    place-none = told-place N m n top zeros o′ w says
+    place-none = trial-told says .place
 
     number-is : w .number ≡ f .number
     number-is =
-        told-number N m n top zeros o′ w says
+        trial-told says .number
         ∙ ap (λ k. trialFault m n top k .number) (length-replicate {A = ℕ} 559 0)
 
     pub lines-written : w .number ≡ 0 → textIn o′ (w .length) ≡ asText (trialLines N m n top)
     lines-written z =
-        let (long, bytes) = told-written N m n top zeros o′ w says z in
+        let (long, bytes) = trial-told says .written z in
         ap₂ textIn bytes long ∙ sym (ap asText (accepted-lines (sym number-is ∙ z)))
 
     pub lines-refused : w .number ≢ 0 → (o″ : List ℕ) → o″ ≡ over (line (w .number) (w .place)) o′ →
         textIn o″ 13 ≡ asText (trialLines N m n top)
     lines-refused h o″ e =
-        let kept = told-refused N m n top zeros o′ w says h .1 in
+        let kept = trial-told says .refused h .1 in
         ap₂ textIn
         (e ∙ ap (over (line (w .number) (w .place))) kept ∙ ap₂ (λ i j. over (line i j) zeros) number-is place-none)
         (sym (line-length (f .number ∷ 0 ∷ [])))
@@ -136,22 +136,18 @@ text-says b N m n top typed o o′ r long says =
     ∙ sym (ap₂ (λ x y. trialLines x y n top) (known .first) (known .second)
     ∙ ap₂ (trialLines (numberAt 0 b) (numberAt 6 b)) (known .third) (known .fourth)) in
     let same : r .number ≡ f N m n top .number =
-    told-number N m n top o o′ r says ∙ ap (λ (g : Fault). g .number) (room-alike m n top (length o) long) in (
+    trial-told says .number ∙ ap (λ (g : Fault). g .number) (room-alike m n top (length o) long) in (
       λ e. never-eleven m n top 559 (omega arith) (sym same ∙ e),
       λ z.
-          let (length-is, bytes) = told-written N m n top o o′ r says z in
+          let (length-is, bytes) = trial-told says .written z in
           text ∙ accepted-lines N m n top (sym same ∙ z)
           ∙ sym (ap (take (r .length)) bytes ∙ take-at (trialBytes N m n top) _ (r .length) (sym length-is)),
       λ h.
           text ∙ refused-lines N m n top (λ z. h (same ∙ z))
-          ∙ ap₂ (line N m n top) (sym same) (sym (told-place N m n top o o′ r says)),
+          ∙ ap₂ (line N m n top) (sym same) (sym (trial-told says .place)),
     )
 
 -- what is answered lies within its bytes
 pub text-within : (b : List ℕ) (r : SheetText) → r ≡ trialTextOf b → r .length ≤ length (r .bytes)
 text-within b r e =
-    let long = ap (λ (x : SheetText). x .length) e in
-    let bytes = ap (λ (x : SheetText). length (x .bytes)) e in
-    let zeros = length-replicate {A = ℕ} 559 0 in
-    let whole = over-long (trialText b) (replicate 559 0) (omega (arith, text-longest b, zeros)) in
-    omega (arith, text-longest b, long, bytes, whole, zeros)
+    subst (λ (x : SheetText). x .length ≤ length (x .bytes)) (sym e) (front-within (trialText b) 559 (text-longest b))

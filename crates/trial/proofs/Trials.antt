@@ -1,9 +1,9 @@
--- All that is claimed of trial sheets. Assumes nothing.
+-- All that is claimed of trial sheets.
 use mathlib.Core.Path.{refl}
 use Rattle.trial.specs.Claims.{Trials}
 use Rattle.trial.proofs.Tables.{trial-worth}
 use Rattle.trial.proofs.Questions.{trial-first-no, trial-all-yes, trial-numbers, trial-capped}
-use Rattle.trial.proofs.Answers.{told-number, told-place, told-refused}
+use Rattle.trial.proofs.Answers.{trial-told}
 use Rattle.trial.proofs.Sold.{trial-accepted, trial-sold, trial-record}
 use Rattle.trial.proofs.Texts.{text-says, text-longest, text-typed}
 
@@ -16,7 +16,7 @@ trials-all =
       trial-all-yes = trial-all-yes;
       trial-numbers = trial-numbers;
       trial-refused = λ N m n top o o′ r says.
-          (told-number N m n top o o′ r says, told-place N m n top o o′ r says, told-refused N m n top o o′ r says);
+          (trial-told says .number, trial-told says .place, trial-told says .refused);
       trial-accepted = trial-accepted;
       trial-sold = trial-sold;
       trial-record = trial-record;

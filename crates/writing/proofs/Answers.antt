@@ -1,8 +1,9 @@
 -- What `write_sheet` answers and leaves in the buffer: a refusal (`says-refused`), or a sheet that is written
--- (`says-written`), in two parts (`parts-written`); and what an answer of either kind tells (`told-refused`,
--- `told-written`). Assumes nothing.
+-- (`says-written`), in two parts (`parts-written`); and what an answer of either kind tells (`Told`, `told`,
+-- `write-told`).
 use mathlib.Core.Path.{_≡_, sym, ap, _∙_}
 use mathlib.Core.Logic.{_≢_}
+use mathlib.Core.Bool.{Bool, true, false}
 use mathlib.Core.List.{List, [], _∷_}
 use Prim.Native.Nat.{ℕ, _+_, _-_, _*_, _≤_}
 use native.Mathlib.Nat.{mul-comm}
@@ -17,6 +18,7 @@ use Rattle.fields.specs.Fields.{lineOf}
 use Rattle.fields.proofs.Lines.{line-length, lines-length}
 use Rattle.sheet.specs.declared.Fault.{Fault}
 use Rattle.sheet.specs.Sheets.{lineLength, lineWorths}
+use Rattle.sheet.specs.Questions.{accepts}
 use Rattle.sheet.proofs.Writing.{bytes-written, row-long}
 use Rattle.writing.specs.declared.Wrote.{Wrote}
 use Rattle.writing.specs.Lists.{listSheet, rowBytes, sheetBytes}
@@ -42,8 +44,39 @@ module _ (m n : ℕ) (vs o l last : List ℕ) (room : 13 + m * lineLength n ≤ 
       over-then (lineOf (m ∷ n ∷ [])) (rowBytes m n vs) o l last 13 (line-length (m ∷ n ∷ []))
       (omega (arith, long, mul-comm m (lineLength n))) e g
 
-abbrev wrote : ℕ → ℕ → ℕ → Wrote
+abbrev pub wrote : ℕ → ℕ → ℕ → Wrote
 wrote number place long = record { number = number; place = place; length = long }
+
+-- the answer and the buffer, by the fault and the bytes of the sheet
+abbrev pub answerBy : Fault → List ℕ → Wrote
+answerBy f b = wrote (f .number) (f .place) (when (accepts f) (length b))
+
+abbrev pub bufferBy : Fault → List ℕ → List ℕ → List ℕ
+bufferBy f b o = pick (accepts f) (over b o) o
+
+-- what they tell, where a fault has no place
+pub record Told (f : Fault) (b o o′ : List ℕ) (r : Wrote) : Type 0 where
+  pub number : r .number ≡ f .number
+  pub place : r .place ≡ 0
+  pub refused : r .number ≢ 0 → (r .length ≡ 0) × (o′ ≡ o)
+  pub written : r .number ≡ 0 → (r .length ≡ length b) × (o′ ≡ over b o)
+
+pub told : (f : Fault) (b o o′ : List ℕ) (r : Wrote) → f .place ≡ 0 → r ≡ answerBy f b → o′ ≡ bufferBy f b o →
+    Told f b o o′ r
+told f b o o′ r none answer bytes =
+    let same = ap (λ (x : Wrote). x .number) answer in
+    record {
+      number = same;
+      place = ap (λ (x : Wrote). x .place) answer ∙ none;
+      refused = λ h. known false (ne-eqb (f .number) 0 (λ z. h (same ∙ z)));
+      written = λ z. known true (eq-eqb (f .number) 0 (sym same ∙ z));
+    }
+  where
+    known : (t : Bool) → accepts f ≡ t → (r .length ≡ when t (length b)) × (o′ ≡ pick t (over b o) o)
+    known t e = (
+      ap (λ (x : Wrote). x .length) answer ∙ ap (λ x. when x (length b)) e,
+      bytes ∙ ap (λ x. pick x (over b o) o) e,
+    )
 
 module _ (m n : ℕ) (vs o : List ℕ) where
   abbrev f : Fault
@@ -74,24 +107,9 @@ module _ (m n : ℕ) (vs o : List ℕ) where
         bytes = eo ∙ ap (λ x. pick x (over b o) o) (sym t);
       }
 
-  -- the other way round
-  module _ (o′ : List ℕ) (r : Wrote) (says : WriteSays m n vs o o′ r) where
-    pub told-number : r .number ≡ f .number
-    told-number = ap (λ (x : Wrote). x .number) (says .answer)
-
-    pub told-place : r .place ≡ 0
-    told-place = ap (λ (x : Wrote). x .place) (says .answer) ∙ write-place m n vs (length o)
-
-    pub told-refused : r .number ≢ 0 → (r .length ≡ 0) × (o′ ≡ o)
-    told-refused h =
-        let t = ne-eqb (f .number) 0 (λ z. h (told-number ∙ z)) in (
-          ap (λ (x : Wrote). x .length) (says .answer) ∙ ap (λ x. when x (length b)) t,
-          says .bytes ∙ ap (λ x. pick x (over b o) o) t,
-        )
-
-    pub told-written : r .number ≡ 0 → (r .length ≡ length b) × (o′ ≡ over b o)
-    told-written z =
-        let t = eq-eqb (f .number) 0 (sym told-number ∙ z) in (
-          ap (λ (x : Wrote). x .length) (says .answer) ∙ ap (λ x. when x (length b)) t,
-          says .bytes ∙ ap (λ x. pick x (over b o) o) t,
-        )
+-- the other way round
+pub write-told : {m n : ℕ} {vs o o′ : List ℕ} {r : Wrote} → WriteSays m n vs o o′ r →
+    Told (writeFault m n vs (length o)) (sheetBytes m n vs) o o′ r
+write-told {m} {n} {vs} {o} {o′} {r} says =
+    told (writeFault m n vs (length o)) (sheetBytes m n vs) o o′ r (write-place m n vs (length o)) (says .answer)
+    (says .bytes)

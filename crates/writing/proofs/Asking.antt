@@ -1,5 +1,4 @@
 -- The questions of a list, in their order: what each answer on the way through `ask_list` says of the list's fault.
--- Assumes nothing.
 use mathlib.Core.Path.{_≡_, ap, _∙_}
 use mathlib.Core.Logic.{_≢_}
 use mathlib.Core.Bool.{true, false}

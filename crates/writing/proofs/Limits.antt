@@ -1,6 +1,5 @@
 -- What bounds a list: 559 bytes have room for every sheet (`never-eleven`, `room-alike`); a list of more than 91
--- numbers is refused as one of 91 is (`write-cut`), and numbers above 999,999 as that is (`write-capped`). Assumes
--- nothing.
+-- numbers is refused as one of 91 is (`write-cut`), and numbers above 999,999 as that is (`write-capped`).
 use mathlib.Core.Path.{_≡_, sym, ap, _∙_}
 use mathlib.Core.Logic.{_≢_}
 use mathlib.Core.Bool.{Bool, true, false}

@@ -1,7 +1,7 @@
 -- The fault of a list, by the question that gets the first "no" (`write-first-no`, `write-all-yes`, `write-numbers`);
--- its number is at most 11 (`write-range`), and its place is 0 (`write-place`). Assumes nothing.
+-- its number is at most 11 (`write-range`), and its place is 0 (`write-place`).
 use mathlib.Core.Path.{_≡_, refl, sym, ap}
-use mathlib.Core.Logic.{_≢_, _⊎_, _↔_, inl, inr}
+use mathlib.Core.Logic.{_≢_, _⊎_, _↔_}
 use mathlib.Core.Bool.{true}
 use mathlib.Core.List.{List, [], _∷_}
 use Prim.Native.Nat.{ℕ, zero, suc, _+_, _-_, _*_, _/_, _%_, _^_, _≤_, _<_}
@@ -18,7 +18,7 @@ use Rattle.sheet.specs.declared.Fault.{Fault}
 use Rattle.sheet.specs.Sheets.{lineLength, Sheet, worth}
 use Rattle.sheet.specs.Questions.{fault, between, firstWrong}
 use Rattle.sheet.proofs.Tables.{table-empty}
-use Rattle.sheet.proofs.Firsts.{FirstNo, first-asked, first-told, Tells, first-none, first-iff}
+use Rattle.sheet.proofs.Firsts.{FirstNo, first-asked, Tells, first-none, first-no, first-number}
 use Rattle.sheet.proofs.Nowhere.{none-large, none-falls}
 use Rattle.sheet.proofs.Faults.{between-means}
 use Rattle.sheet.proofs.Theorems.{ask-cases}
@@ -128,21 +128,14 @@ module _ (m n : ℕ) (vs : List ℕ) (room : ℕ) where
 
   pub write-first-no : (j : ℕ) → j < 6 → (writeFault m n vs room .number ≡ number j)
       ↔ (((i : ℕ) → i < j → ListQuestion m n vs room i) × (ListQuestion m n vs room j → ⊥))
-  write-first-no j h =
-      let (to, from-no) = first-iff number back (from 0) (writeFault m n vs room .number) tells list-first j
-      (tells j h) in (
-        λ e. let no-at = to e in (no-at .before, no-at .there),
-        λ (before, there). from-no (record { before = before; there = there }),
-      )
+  write-first-no = first-no number back (from 0) (writeFault m n vs room .number) tells list-first
 
   pub write-all-yes : (writeFault m n vs room .number ≡ 0) ↔ ((j : ℕ) → ListQuestion m n vs room j)
   write-all-yes = first-none number back (from 0) (writeFault m n vs room .number) tells list-first
 
   pub write-numbers : (writeFault m n vs room .number ≡ 0)
       ⊎ ((j : ℕ) × (j < 6) × (writeFault m n vs room .number ≡ number j))
-  write-numbers =
-      elim (first-told number (from 0) (writeFault m n vs room .number) list-first)
-      [ inl (z, _) ↦ inl z | inr (j, l, e, _) ↦ inr (j, l, e) ]
+  write-numbers = first-number number back (from 0) (writeFault m n vs room .number) tells list-first
 
   -- a fault has a number up to 11, and the place 0
   fault-cases : (P : Fault → Type 0) → ((k : ℕ) → k ≤ 11 → P (fault k 0)) → P (writeFault m n vs room)

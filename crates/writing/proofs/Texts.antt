@@ -1,27 +1,28 @@
 -- What `sheet_text` answers, of a sheet that is written (`text-written`) or refused (`text-refused`); what is printed
 -- of numbers is what is written of them (`text-says`, `typed-fields`), and no other bytes are written (`text-fields`);
--- it is never long (`text-longest`, `text-within`). Assumes nothing.
-use mathlib.Core.Path.{_≡_, refl, sym, ap, ap₂, subst₂, _∙_}
+-- it is never long (`text-longest`, `text-within`).
+use mathlib.Core.Path.{_≡_, refl, sym, ap, ap₂, subst, subst₂, _∙_}
 use mathlib.Core.Logic.{_≢_}
-use mathlib.Core.List.{List, [], _∷_, _++_}
+use mathlib.Core.List.{List, [], _∷_}
 use Prim.Native.Nat.{ℕ, zero, suc, min, _+_, _-_, _*_, _/_, _^_, _≤_, _<_}
 use native.Mathlib.Nat.{pow-le-pow-right}
 use native.Mathlib.Omega.{arith}
 use native.Mathlib.Decide.{ℕ-discrete, decLe}
 use lib.Dec.{lit<}
-use lib.ListN.{length, take, drop, getD, replicate, length-replicate, length-drop, take-append-drop}
-use lib.Seq.{take-all, take-at, drop-at, drop-drop, ext-getD}
+use lib.ListN.{length, take, drop, getD, replicate, length-replicate}
+use lib.Seq.{take-all, take-at, ext-getD}
 use borrow.Author.Tests.{eq-eqb, ne-eqb}
 use Rattle.theory.specs.Sums.{pick}
 use Rattle.theory.specs.Lists.{tabulate, over}
-use Rattle.theory.proofs.Over.{over-long}
-use Rattle.theory.proofs.Lists.{tabulate-at, tabulate-length, tabulate-take, tabulate-shift}
+use Rattle.theory.proofs.Lists.{tabulate-at, tabulate-length, tabulate-take}
 use Rattle.numbers.proofs.Numbers.{product-small}
 use Rattle.fields.specs.declared.Field.{Field}
 use Rattle.fields.specs.declared.Field.the-variants.{Number, Faulty}
 use Rattle.fields.specs.Fields.{columns, fieldsOf, lineOf, fieldAt}
 use Rattle.fields.proofs.Canonical.{field-canonical}
-use Rattle.fields.proofs.Lines.{columns-length, fields-length, line-length}
+use Rattle.printing.proofs.Lines.{front-within}
+use Rattle.fields.proofs.Lines.{fields-length, line-length}
+use Rattle.fields.proofs.Listed.{listed-read, fields-listed}
 use Rattle.sheet.specs.declared.Fault.{Fault}
 use Rattle.sheet.specs.Sheets.{lineLength}
 use Rattle.writing.specs.declared.Wrote.{Wrote}
@@ -31,7 +32,7 @@ use Rattle.writing.specs.Answers.{writeFault, WriteSays, orTooLarge, typ
 use Rattle.writing.specs.Answers.{sheetText, sheetTextOf}
 use Rattle.writing.specs.Claims.{ListQuestion}
 use Rattle.writing.proofs.Questions.{write-place, write-all-yes}
-use Rattle.writing.proofs.Answers.{sheet-length, told-number, told-place, told-refused, told-written}
+use Rattle.writing.proofs.Answers.{sheet-length, write-told}
 use Rattle.writing.proofs.Limits.{count-small, bytes-small, room-alike, write-cut}
 
 pub first-length : (b : List ℕ) → length (firstTyped b) ≡ 91
@@ -98,14 +99,14 @@ module _ (b : List ℕ) where
     says = subst₂ (λ i j. WriteSays i j l zeros o′ w) ex ey told
 
     pub refused-long : w .number ≢ 0 → length o′ ≡ 559
-    refused-long h = ap length (told-refused m n l zeros o′ w says h .1) ∙ length-replicate {A = ℕ} 559 0
+    refused-long h = ap length (write-told says .refused h .1) ∙ length-replicate {A = ℕ} 559 0
 
     pub place-none : w .place ≡ 0
-    place-none = told-place m n l zeros o′ w says
+    place-none = write-told says .place
 
     number-is : w .number ≡ f .number
     number-is =
-        told-number m n l zeros o′ w says
+        write-told says .number
         ∙ ap (λ k. writeFault m n l k .number) (length-replicate {A = ℕ} 559 0)
         ∙ ap (λ us. writeFault m n us 559 .number) el ∙ ap (λ (g : Fault). g .number) (write-cut m n vs 559)
 
@@ -114,7 +115,7 @@ module _ (b : List ℕ) where
         let yes-to = write-all-yes m n vs 559 .0 (sym number-is ∙ z) in
         let few = count-small m n (yes-to 0 .1) (yes-to 1 .1) in
         let whole : l ≡ vs = el ∙ take-all 91 vs (omega (arith, yes-to 2)) in
-        let (long, bytes) = told-written m n l zeros o′ w says z in
+        let (long, bytes) = write-told says .written z in
         ap₂ textIn bytes long
         ∙ ap (λ us. textIn (over (sheetBytes m n us) zeros) (length (sheetBytes m n us))) whole
         ∙ text-of (sheetBytes m n vs) (accepted-text (sym number-is ∙ z))
@@ -122,7 +123,7 @@ module _ (b : List ℕ) where
     pub text-refused : w .number ≢ 0 → (o″ : List ℕ) → o″ ≡ over (line (w .number) (w .place)) o′ →
         textIn o″ 13 ≡ sheetTextOf b
     text-refused h o″ e =
-        let kept = told-refused m n l zeros o′ w says h .1 in
+        let kept = write-told says .refused h .1 in
         ap₂ textIn
         (e ∙ ap (over (line (w .number) (w .place))) kept ∙ ap₂ (λ i j. over (line i j) zeros) number-is place-none)
         (sym (line-length (f .number ∷ 0 ∷ [])))
@@ -133,15 +134,15 @@ module _ (b : List ℕ) where
       × (r .number ≢ 0 → sheetText b ≡ line (r .number) (r .place))
   text-says o o′ r long says =
       let same : r .number ≡ f .number =
-      told-number m n vs o o′ r says ∙ ap (λ (g : Fault). g .number) (room-alike m n vs (length o) long) in (
+      write-told says .number ∙ ap (λ (g : Fault). g .number) (room-alike m n vs (length o) long) in (
         λ z.
-            let (length-is, bytes) = told-written m n vs o o′ r says z in
+            let (length-is, bytes) = write-told says .written z in
             let yes-to = write-all-yes m n vs 559 .0 (sym same ∙ z) in
             let is = accepted-text (sym same ∙ z) in (
               is ∙ sym (ap (take (r .length)) bytes ∙ take-at (sheetBytes m n vs) _ (r .length) (sym length-is)),
               rw is (rw (sheet-length m n vs) (at-least m n (yes-to 0 .0) (yes-to 1 .0))),
             ),
-        λ h. refused-text (λ z. h (same ∙ z)) ∙ ap₂ line (sym same) (sym (told-place m n vs o o′ r says)),
+        λ h. refused-text (λ z. h (same ∙ z)) ∙ ap₂ line (sym same) (sym (write-told says .place)),
       )
     where
       at-least : (m n : ℕ) → 1 ≤ m → 1 ≤ n → 20 ≤ 13 + m * lineLength n
@@ -160,36 +161,11 @@ module _ (b : List ℕ) where
 -- what is answered lies within its bytes
 pub text-within : (b : List ℕ) (r : SheetText) → r ≡ sheetTextOf b → r .length ≤ length (r .bytes)
 text-within b r e =
-    let long = ap (λ (x : SheetText). x .length) e in
-    let bytes = ap (λ (x : SheetText). length (x .bytes)) e in
-    omega (
-      arith,
-      text-longest b,
-      long,
-      bytes,
-      over-long (sheetText b) (replicate 559 0)
-          (omega (arith, text-longest b, length-replicate {A = ℕ} 559 0)),
-      length-replicate {A = ℕ} 559 0,
-    )
+    subst (λ (x : SheetText). x .length ≤ length (x .bytes)) (sym e) (front-within (sheetText b) 559 (text-longest b))
 
 -- numbers in fields are read as they are
-pub field-in : (l : List ℕ) (k : ℕ) → k < length l →
-    drop (6 * k) (fieldsOf l) ≡ columns 6 (getD l k 0) ++ fieldsOf (drop (suc k) l)
-field-in [] k h = absurd (omega arith)
-field-in (v ∷ l) zero h = refl
-field-in (v ∷ l) (suc k) h =
-    let six : 6 * suc k ≡ 6 + 6 * k = omega arith in
-    ap (λ j. drop j (fieldsOf (v ∷ l))) six ∙ sym (drop-drop (6 * k) 6 (fieldsOf (v ∷ l)))
-    ∙ ap (drop (6 * k)) (drop-at (columns 6 v) (fieldsOf l) 6 (columns-length 6 v)) ∙ field-in l k (omega arith)
-
 typed-in : (l : List ℕ) (k : ℕ) → k < length l → getD l k 0 ≤ 999999 → typed (fieldsOf l) k ≡ getD l k 0
-typed-in l k h small =
-    ap orTooLarge (field-canonical (fieldsOf l) (6 * k) (getD l k 0) .1 (
-      omega (arith, fields-length l),
-      small,
-      ap (take 6) (field-in l k h)
-          ∙ take-at (columns 6 (getD l k 0)) (fieldsOf (drop (suc k) l)) 6 (columns-length 6 (getD l k 0)),
-    ))
+typed-in l k h small = ap orTooLarge (listed-read l k h small)
 
 pub typed-fields : (m n : ℕ) (vs : List ℕ) → ((k : ℕ) → getD (m ∷ n ∷ vs) k 0 ≤ 999999) →
     let b = fieldsOf (m ∷ n ∷ vs) in (typed b 0 ≡ m) × (typed b 1 ≡ n) × (typedList b ≡ vs)
@@ -211,18 +187,6 @@ typed-fields m n vs small =
 good-field : (f : Field) → orTooLarge f ≤ 9999 → f ≡ Number (orTooLarge f)
 good-field (Number v) h = refl
 good-field (Faulty at) h = absurd (omega arith)
-
-pub fields-all : (k : ℕ) (b : List ℕ) (g : ℕ → ℕ) → length b ≡ 6 * k →
-    ((j : ℕ) → j < k → take 6 (drop (6 * j) b) ≡ columns 6 (g j)) → b ≡ fieldsOf (tabulate k 0 g)
-fields-all zero [] g long each = refl
-fields-all zero (x ∷ b) g long each = absurd (omega arith)
-fields-all (suc k) b g long each =
-    let rest : drop 6 b ≡ fieldsOf (tabulate k 1 g) =
-    fields-all k (drop 6 b) (λ j. g (suc j)) (rw length-drop (omega arith)) (λ j h.
-    let six : 6 + 6 * j ≡ 6 * suc j = omega arith in
-    ap (take 6) (drop-drop (6 * j) 6 b ∙ ap (λ i. drop i b) six) ∙ each (suc j) (omega arith))
-    ∙ ap fieldsOf (sym (tabulate-shift k 0 g)) in
-    sym (take-append-drop 6 b) ∙ ap₂ _++_ (each 0 (omega arith)) rest
 
 module _ (b : List ℕ) (long : 13 < length (sheetText b)) where
   abbrev l : List ℕ
@@ -270,7 +234,7 @@ module _ (b : List ℕ) (long : 13 < length (sheetText b)) where
 
   pub text-fields : (b ≡ fieldsOf l) × ((k : ℕ) → getD l k 0 ≤ 9999)
   text-fields = (
-    fields-all (suc (suc many)) b (typed b) (omega (arith, some, each (1 + many) (omega arith) .0))
+    fields-listed (suc (suc many)) b (typed b) (omega (arith, some, each (1 + many) (omega arith) .0))
         (λ j h. each j (omega arith) .1),
     small,
   )

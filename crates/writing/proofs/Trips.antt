@@ -1,6 +1,6 @@
 -- The round trips: what is written is read as the list's table (`written-read`); a sheet's numbers are in the list's
 -- order (`in-order`), and an accepted sheet, read and written, gives its own bytes (`read-written`). The questions that
--- a list shares with a sheet are those of the sheet that it makes (`same-questions`). Assumes nothing.
+-- a list shares with a sheet are those of the sheet that it makes (`same-questions`).
 use mathlib.Core.Path.{_≡_, refl, sym, ap, ap₂, subst, _∙_}
 use mathlib.Core.Logic.{inl, inr}
 use mathlib.Core.List.{List, [], _∷_}
@@ -32,7 +32,7 @@ use Rattle.writing.specs.Claims.{questionNumbers, ListQuestion}
 use Rattle.writing.proofs.Rows.{listed-worth}
 use Rattle.writing.proofs.Questions.{small-list, small-table, grow-list}
 use Rattle.writing.proofs.Questions.{write-first-no, write-all-yes, write-numbers}
-use Rattle.writing.proofs.Answers.{sheet-length, told-number, told-written}
+use Rattle.writing.proofs.Answers.{sheet-length, write-told}
 
 -- a list that gets a "yes" to every question
 module _ (m n : ℕ) (vs : List ℕ) (room : ℕ) (yes-to : (j : ℕ) → ListQuestion m n vs room j) where
@@ -70,8 +70,8 @@ module _ (m n : ℕ) (vs o o′ : List ℕ) (r : Wrote) (says : WriteSays m n vs
       ≡ record { number = 0; place = 0; buyers = m; lots = n; worths = listSheet m n vs .worths })
   written-read =
       let b = sheetBytes m n vs in
-      let (long, is) = told-written m n vs o o′ r says z in
-      let none = sym (told-number m n vs o o′ r says) ∙ z in
+      let (long, is) = write-told says .written z in
+      let none = sym (write-told says .number) ∙ z in
       let (accepted, read) = bytes-accepted m n vs (length o) (write-all-yes m n vs (length o) .0 none) in
       let front : take (r .length) o′ ≡ b = ap (take (r .length)) is ∙ take-at b _ (r .length) (sym long) in
       (long, is, ap worthsRead front ∙ accepted-read b (listSheet m n vs) accepted read)
@@ -169,8 +169,8 @@ module _ (b : List ℕ) (accepted : sheetFault b .number ≡ 0) where
   read-written o o′ r long says =
       let m = u .buyers in
       let n = u .lots in
-      let z = told-number m n vs o o′ r says ∙ write-all-yes m n vs (length o) .1 (asked (length o) long) in
-      let (length-is, bytes-is) = told-written m n vs o o′ r says z in
+      let z = write-told says .number ∙ write-all-yes m n vs (length o) .1 (asked (length o) long) in
+      let (length-is, bytes-is) = write-told says .written z in
       (z, length-is ∙ ap length same-bytes, bytes-is ∙ ap (λ x. over x o) same-bytes)
 
 -- a list of the right length, with numbers of six columns, and a buffer that is long enough

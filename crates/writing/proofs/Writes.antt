@@ -1,7 +1,7 @@
--- All the theorems about writing sheets (`writes-all`). Assumes nothing.
+-- All the theorems about writing sheets (`writes-all`).
 use Rattle.writing.specs.Claims.{Writes}
 use Rattle.writing.proofs.Questions.{write-first-no, write-all-yes, write-numbers}
-use Rattle.writing.proofs.Answers.{told-number, told-place, told-refused}
+use Rattle.writing.proofs.Answers.{write-told}
 use Rattle.writing.proofs.Trips.{same-questions, written-read, in-order, read-written}
 use Rattle.writing.proofs.Limits.{never-eleven, write-capped, write-cut}
 use Rattle.writing.proofs.Texts.{typed-fields, text-says, text-longest, text-fields}
@@ -13,9 +13,9 @@ writes-all =
       write-all-yes = write-all-yes;
       write-numbers = write-numbers;
       write-refused = λ m n vs o o′ r says. (
-        told-number m n vs o o′ r says,
-        told-place m n vs o o′ r says,
-        told-refused m n vs o o′ r says,
+        write-told says .number,
+        write-told says .place,
+        write-told says .refused,
       );
       same-questions = same-questions;
       written-read = written-read;

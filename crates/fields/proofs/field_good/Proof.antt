@@ -18,12 +18,14 @@ enum-told-2 c = search needs
 returns : tie.Need-returns
 returns c =
     let z = c .before .before .before .before .args in
-    sym (ap good (field-read (z .sheet .now) (z .at) _ _ (c .before .before .read-field .ensures) (c .enum-told .given .1)))
+    sym (ap good (field-read (z .sheet .now) (z .at) _ _ (c .before .before .read-field .ensures)
+    (c .enum-told .given .1)))
 
 returns-2 : tie.Need-returns-2
 returns-2 c =
     let z = c .before .before .before .before .args in
-    sym (ap good (field-read (z .sheet .now) (z .at) _ _ (c .before .before .read-field .ensures) (c .enum-told2 .given .1)))
+    sym (ap good (field-read (z .sheet .now) (z .at) _ _ (c .before .before .read-field .ensures)
+    (c .enum-told2 .given .1)))
 
 pub field-good-spec : {M : Type 1} → statement M
 field-good-spec = tie.close (tie.spec read-field-requires enum-told enum-told-2 returns returns-2)

@@ -18,12 +18,14 @@ enum-told c = search needs
 returns : tie.Need-returns
 returns c =
     let z = c .before .before .before .before .before .args in
-    sym (ap numberOf (field-read (z .sheet .now) (z .at) _ _ (c .before .before .before .read-field .ensures) (c .before .f .given .1)))
+    sym (ap numberOf (field-read (z .sheet .now) (z .at) _ _ (c .before .before .before .read-field .ensures)
+    (c .before .f .given .1)))
 
 returns-2 : tie.Need-returns-2
 returns-2 c =
     let z = c .before .before .before .before .args in
-    sym (ap numberOf (field-read (z .sheet .now) (z .at) _ _ (c .before .before .read-field .ensures) (c .enum-told .given .1)))
+    sym (ap numberOf (field-read (z .sheet .now) (z .at) _ _ (c .before .before .read-field .ensures)
+    (c .enum-told .given .1)))
 
 pub field-number-spec : {M : Type 1} → statement M
 field-number-spec =

@@ -92,7 +92,8 @@ whole e = sym (told (e .before)) ∙ e .if4 .left
 digit : (e : tie.Then5 Inv-loop μ-loop) → (48 ≤ b (e .before .before)) × (b (e .before .before) < 58)
 digit e =
     let j = e .before .before in
-    let some = unbroken-digit (f j) (ltb (k j + 1) 6) (b j) (whole (e .before)) (λ z. omega (arith, z, e .if5 .taken)) in
+    let some =
+    unbroken-digit (f j) (ltb (k j + 1) 6) (b j) (whole (e .before)) (λ z. omega (arith, z, e .if5 .taken)) in
     digit-range (b j) some
 
 sub-wide : tie.Need-sub-wide Inv-loop μ-loop

@@ -12,7 +12,9 @@ scan-columns-requires : tie.Need-scan-columns-requires
 scan-columns-requires c κs = search needs
 
 returns : tie.Need-returns
-returns c = let z = c .before .before .before .before .args in six-left (z .sheet .now) (z .at) (c .scan-columns .result) (omega arith) (c .scan-columns .ensures)
+returns c =
+    let z = c .before .before .before .before .args in
+    six-left (z .sheet .now) (z .at) (c .scan-columns .result) (omega arith) (c .scan-columns .ensures)
 
 returns-2 : tie.Need-returns-2
 returns-2 c = let z = c .before .before .before .args in fewer-left (z .sheet .now) (z .at) (omega arith)

@@ -18,15 +18,6 @@ loop-holds : tie.Need-loop-holds Inv-loop μ-loop
 unfolding start
 loop-holds c = (omega arith, refl)
 
-draw-requires : tie.Need-draw-requires Inv-loop μ-loop
-draw-requires c κs = search needs
-
-add-k : tie.Need-add-k Inv-loop μ-loop
-add-k c = omega arith
-
-loop-less : tie.Need-loop-less Inv-loop μ-loop
-loop-less c = omega arith
-
 loop-again : tie.Need-loop-again Inv-loop μ-loop
 loop-again c =
     let l = c .before .before .before .loop in
@@ -40,4 +31,5 @@ returns c =
     l .inv .1 ∙ ap after all
 
 pub after-draws-spec : {M : Type 1} → statement M
-after-draws-spec = tie.close (tie.spec Inv-loop μ-loop loop-holds draw-requires add-k loop-less loop-again returns)
+after-draws-spec = tie.close (tie.spec Inv-loop μ-loop loop-holds (λ c κs. search needs) (λ c. omega arith)
+    (λ c. omega arith) loop-again returns)

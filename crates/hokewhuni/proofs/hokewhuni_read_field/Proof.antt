@@ -4,18 +4,6 @@ use Rattle.hokewhuni.proofs.Answered.{answered}
 use Rattle.hokewhuni.proofs.hokewhuni_read_field.Statement.{statement}
 use Rattle.hokewhuni.proofs.hokewhuni_read_field.Tie as tie
 
-read-field-requires : tie.Need-read-field-requires
-read-field-requires c κs = search needs
-
-enum-known-f : tie.Need-enum-known-f
-enum-known-f c = search needs
-
-cast-t8 : tie.Need-cast-t8
-cast-t8 c = search needs
-
-enum-known-f-2 : tie.Need-enum-known-f-2
-enum-known-f-2 c = search needs
-
 returns : tie.Need-returns
 returns c =
     let p = c .before .before .before in
@@ -30,4 +18,5 @@ returns-2 c =
 
 pub hokewhuni-read-field-spec : {M : Type 1} → statement M
 hokewhuni-read-field-spec =
-    tie.close (tie.spec read-field-requires enum-known-f cast-t8 enum-known-f-2 returns returns-2)
+    tie.close (tie.spec (λ c κs. search needs) (λ c. search needs) (λ c. search needs) (λ c. search needs) returns
+    returns-2)

@@ -18,7 +18,9 @@ abbrev asked : ℕ → List ℕ → List ℕ → ℕ → ℕ → ℕ → Bool
 asked q b ws m n j = wrong q b (asSheet m n ws) (j / 2 ^ n) (j % 2 ^ n)
 
 abbrev Inv-loop : tie.InvT-loop
-Inv-loop question sheet numbers m n size places k₀ k = (k ≤ places) × (least (m * 2 ^ n - k) k (asked question sheet numbers m n) ≡ least (m * 2 ^ n) 0 (asked question sheet numbers m n))
+Inv-loop question sheet numbers m n size places k₀ k =
+    (k ≤ places) × (least (m * 2 ^ n - k) k (asked question sheet numbers m n)
+    ≡ least (m * 2 ^ n) 0 (asked question sheet numbers m n))
 
 abbrev μ-loop : tie.MeasureT-loop
 μ-loop question sheet numbers m n size places k₀ k = places - k
@@ -27,7 +29,8 @@ bundles-requires : tie.Need-bundles-requires Inv-loop μ-loop
 bundles-requires c κs = omega arith
 
 mul-places : tie.Need-mul-places Inv-loop μ-loop
-mul-places c = omega (arith, product-small (c .before .before .args .m) (c .bundles .result) 6 16 (omega arith) (omega arith))
+mul-places c =
+    omega (arith, product-small (c .before .before .args .m) (c .bundles .result) 6 16 (omega arith) (omega arith))
 
 loop-holds : tie.Need-loop-holds Inv-loop μ-loop
 loop-holds c = (omega arith, rw sub-zero refl)
@@ -86,8 +89,10 @@ returns c =
     let z = i .before .before .before .before .args in
     let w = asSheet (z .m) (z .n) (z .numbers .now) in
     each-found (z .question) (n i) (size i) (k i) (c .offset-of .result) _ (size-is i) (c .offset-of .ensures .is)
-    (least-here (asked (z .question) (z .sheet .now) (z .numbers .now) (z .m) (z .n)) (m i * 2 ^ n i) (k i) _ (short i) (i .before .loop .inv .1)
-    (sym (place-asked (z .question) (n i) (size i) (k i) (z .sheet .now) w _ (size-is i) (c .before .before .wrong-at .ensures)) ∙ c .before .if1 .taken))
+    (least-here (asked (z .question) (z .sheet .now) (z .numbers .now) (z .m) (z .n)) (m i * 2 ^ n i) (k i) _ (short i)
+    (i .before .loop .inv .1) (sym
+    (place-asked (z .question) (n i) (size i) (k i) (z .sheet .now) w _ (size-is i)
+    (c .before .before .wrong-at .ensures)) ∙ c .before .if1 .taken))
 
 add-k : tie.Need-add-k Inv-loop μ-loop
 add-k c = omega (arith, few (c .before .before))
@@ -101,8 +106,10 @@ loop-again c =
     let z = i .before .before .before .before .args in
     let w = asSheet (z .m) (z .n) (z .numbers .now) in (
       omega arith,
-      least-passed (asked (z .question) (z .sheet .now) (z .numbers .now) (z .m) (z .n)) (m i * 2 ^ n i) (k i) _ (short i) (i .before .loop .inv .1)
-          (sym (place-asked (z .question) (n i) (size i) (k i) (z .sheet .now) w _ (size-is i) (c .before .wrong-at .ensures)) ∙ c .if1 .left),
+      least-passed (asked (z .question) (z .sheet .now) (z .numbers .now) (z .m) (z .n)) (m i * 2 ^ n i) (k i) _
+          (short i) (i .before .loop .inv .1)
+          (sym (place-asked (z .question) (n i) (size i) (k i) (z .sheet .now) w _ (size-is i)
+          (c .before .wrong-at .ensures)) ∙ c .if1 .left),
     )
 
 returns-2 : tie.Need-returns-2 Inv-loop μ-loop
@@ -110,8 +117,12 @@ unfolding firstWrong
 returns-2 c =
     let z = c .before .before .before .before .args in
     each-none (z .question) (z .n) _
-    (least-done (asked (z .question) (z .sheet .now) (z .numbers .now) (z .m) (z .n)) (z .m * 2 ^ z .n) (c .before .loop .k) _
-    (omega (arith, c .loop-test .left, ap (λ y. z .m * y) (c .before .before .bundles .ensures .is))) (c .before .loop .inv .1))
+    (least-done (asked (z .question) (z .sheet .now) (z .numbers .now) (z .m) (z .n)) (z .m * 2 ^ z .n)
+    (c .before .loop .k) _ (omega (
+      arith,
+      c .loop-test .left,
+      ap (λ y. z .m * y) (c .before .before .bundles .ensures .is),
+    )) (c .before .loop .inv .1))
 
 pub ask-each-spec : {M : Type 1} → statement M
 ask-each-spec =

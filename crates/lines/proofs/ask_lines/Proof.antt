@@ -12,7 +12,8 @@ returns : tie.Need-returns
 returns c =
     let p = c .before .before in
     let z = p .before .before .args in
-    lines-malformed (z .sheet .now) (asSheet (z .m) (z .n) (z .numbers .now)) (p .ask-each .result) (p .ask-each .ensures) (c .if1 .taken)
+    lines-malformed (z .sheet .now) (asSheet (z .m) (z .n) (z .numbers .now)) (p .ask-each .result)
+    (p .ask-each .ensures) (c .if1 .taken)
 
 ask-each-requires-2 : tie.Need-ask-each-requires-2
 ask-each-requires-2 c κs = search needs
@@ -22,8 +23,8 @@ returns-2 c =
     let q = c .before .before in
     let p = q .before .before .before in
     let z = p .before .before .args in
-    lines-large (z .sheet .now) (asSheet (z .m) (z .n) (z .numbers .now)) (p .ask-each .result) (p .ask-each .ensures) (q .before .if1 .left)
-    (q .ask-each2 .result) (q .ask-each2 .ensures) (c .if2 .taken)
+    lines-large (z .sheet .now) (asSheet (z .m) (z .n) (z .numbers .now)) (p .ask-each .result) (p .ask-each .ensures)
+    (q .before .if1 .left) (q .ask-each2 .result) (q .ask-each2 .ensures) (c .if2 .taken)
 
 ask-each-requires-3 : tie.Need-ask-each-requires-3
 ask-each-requires-3 c κs = search needs
@@ -33,8 +34,9 @@ returns-3 c =
     let q = c .before .before .before in
     let p = q .before .before .before in
     let z = p .before .before .args in
-    lines-last (z .sheet .now) (asSheet (z .m) (z .n) (z .numbers .now)) (p .ask-each .result) (p .ask-each .ensures) (q .before .if1 .left)
-    (q .ask-each2 .result) (q .ask-each2 .ensures) (c .before .if2 .left) (c .ask-each3 .result) (c .ask-each3 .ensures)
+    lines-last (z .sheet .now) (asSheet (z .m) (z .n) (z .numbers .now)) (p .ask-each .result) (p .ask-each .ensures)
+    (q .before .if1 .left) (q .ask-each2 .result) (q .ask-each2 .ensures) (c .before .if2 .left)
+    (c .ask-each3 .result) (c .ask-each3 .ensures)
 
 pub ask-lines-spec : {M : Type 1} → statement M
 ask-lines-spec =

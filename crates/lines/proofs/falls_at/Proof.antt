@@ -21,7 +21,8 @@ grows-to-requires c κs = search needs
 returns : tie.Need-returns
 returns c =
     let z = c .before .before .before .args in
-    falls-field (asSheet 0 (z .n) (z .numbers .now)) (z .i) (z .c) (omega (arith, c .before .before .bundles .ensures .is)) (c .grows-to .result) (c .grows-to .ensures)
+    falls-field (asSheet 0 (z .n) (z .numbers .now)) (z .i) (z .c)
+    (omega (arith, c .before .before .bundles .ensures .is)) (c .grows-to .result) (c .grows-to .ensures)
 
 returns-2 : tie.Need-returns-2
 returns-2 c =

@@ -42,7 +42,13 @@ bundles-requires : tie.Need-bundles-requires Inv-loop μ-loop
 bundles-requires c κs = omega arith
 
 sub-part : tie.Need-sub-part Inv-loop μ-loop
-sub-part c = omega (arith, bit-le (c .before .before .before .before .loop .j) _ (sym (c .before .before .has .ensures) ∙ c .before .if1 .taken), c .bundles .ensures .is)
+sub-part c =
+    omega (
+      arith,
+      bit-le (c .before .before .before .before .loop .j) _
+          (sym (c .before .before .has .ensures) ∙ c .before .if1 .taken),
+      c .bundles .ensures .is,
+    )
 
 add-part : tie.Need-add-part Inv-loop μ-loop
 add-part c = omega arith
@@ -60,7 +66,8 @@ returns c =
     let j = l .loop .j in
     let there = sym (c .before .before .before .before .has .ensures) ∙ c .before .before .before .if1 .taken in
     every-failed (growsBy (z .numbers .now) (z .i) (z .s)) (z .n) j _ (omega arith) (l .loop .inv .1)
-    (lot-less (z .numbers .now) (z .i) (z .s) j there (c .before .before .bundles .result) (c .before .before .bundles .ensures .is) (c .if2 .taken))
+    (lot-less (z .numbers .now) (z .i) (z .s) j there (c .before .before .bundles .result)
+    (c .before .before .bundles .ensures .is) (c .if2 .taken))
 
 add-j : tie.Need-add-j Inv-loop μ-loop
 add-j c = omega arith
@@ -76,7 +83,8 @@ loop-again c =
       omega arith,
       every-passed (growsBy (z .numbers .now) (z .i) (z .s)) (z .n) j _ (omega arith) (l .loop .inv .1)
           (⊎-elim
-          (λ w. lot-fine (z .numbers .now) (z .i) (z .s) j (sym (c .before .has .ensures) ∙ w .0 .taken) (w .1 .result) (w .1 .ensures .is) (w .3 .left))
+          (λ w. lot-fine (z .numbers .now) (z .i) (z .s) j (sym (c .before .has .ensures) ∙ w .0 .taken) (w .1 .result)
+          (w .1 .ensures .is) (w .3 .left))
           (λ w. lot-lacking (z .numbers .now) (z .i) (z .s) j (sym (c .before .has .ensures) ∙ w .left))
           (c .if1 .came)),
     )

@@ -22,8 +22,9 @@ field-good-requires c κs = search needs
 returns : tie.Need-returns
 returns c =
     let z = c .before .before .before .before .before .args in
-    malformed-field (asSheet 0 (z .n) []) (z .i) (z .c) (omega (arith, c .before .before .bundles .ensures .is)) (z .sheet .now)
-    (c .before .before .before .offset-of .result) (c .field-good .result) (c .before .before .before .offset-of .ensures .is) (c .field-good .ensures)
+    malformed-field (asSheet 0 (z .n) []) (z .i) (z .c) (omega (arith, c .before .before .bundles .ensures .is))
+    (z .sheet .now) (c .before .before .before .offset-of .result) (c .field-good .result)
+    (c .before .before .before .offset-of .ensures .is) (c .field-good .ensures)
 
 byte-at-requires : tie.Need-byte-at-requires
 byte-at-requires c κs = search needs
@@ -31,8 +32,9 @@ byte-at-requires c κs = search needs
 returns-2 : tie.Need-returns-2
 returns-2 c =
     let z = c .before .before .before .before .before .args in
-    malformed-end (asSheet 0 (z .n) []) (z .i) (z .c) (omega (arith, c .before .before .bundles .ensures .is)) (z .sheet .now)
-    (c .before .before .before .offset-of .result) (c .byte-at .result) (c .before .before .before .offset-of .ensures .is) (c .byte-at .ensures)
+    malformed-end (asSheet 0 (z .n) []) (z .i) (z .c) (omega (arith, c .before .before .bundles .ensures .is))
+    (z .sheet .now) (c .before .before .before .offset-of .result) (c .byte-at .result)
+    (c .before .before .before .offset-of .ensures .is) (c .byte-at .ensures)
 
 pub malformed-at-spec : {M : Type 1} → statement M
 malformed-at-spec =

@@ -10,22 +10,26 @@ line-length-requires : tie.Need-line-length-requires
 line-length-requires c κs = search needs
 
 mul-result : tie.Need-mul-result
-mul-result c = omega (arith, product-small (c .before .args .i) (c .line-length .result) 6 91 (omega arith) (omega arith))
+mul-result c =
+    omega (arith, product-small (c .before .args .i) (c .line-length .result) 6 91 (omega arith) (omega arith))
 
 mul-result-2 : tie.Need-mul-result-2
 mul-result-2 c = search needs
 
 add-result : tie.Need-add-result
-add-result c = omega (arith, product-small (c .before .args .i) (c .line-length .result) 6 91 (omega arith) (omega arith))
+add-result c =
+    omega (arith, product-small (c .before .args .i) (c .line-length .result) 6 91 (omega arith) (omega arith))
 
 add-result-2 : tie.Need-add-result-2
-add-result-2 c = omega (arith, product-small (c .before .args .i) (c .line-length .result) 6 91 (omega arith) (omega arith))
+add-result-2 c =
+    omega (arith, product-small (c .before .args .i) (c .line-length .result) 6 91 (omega arith) (omega arith))
 
 returns : tie.Need-returns
 returns c =
     record {
       is = rw (c .line-length .ensures .is) refl;
-      most = omega (arith, product-small (c .before .args .i) (c .line-length .result) 6 91 (omega arith) (omega arith));
+      most =
+          omega (arith, product-small (c .before .args .i) (c .line-length .result) 6 91 (omega arith) (omega arith));
     }
 
 pub offset-of-spec : {M : Type 1} → statement M

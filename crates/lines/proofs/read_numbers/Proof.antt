@@ -32,7 +32,8 @@ loop-less : tie.Need-loop-less Inv-loop μ-loop
 loop-less c = omega arith
 
 loop-again : tie.Need-loop-again Inv-loop μ-loop
-loop-again c = (omega arith, filled-more _ 96 _ _ _ (omega arith) (c .worth-place .ensures) (c .before .before .loop .inv .1))
+loop-again c =
+    (omega arith, filled-more _ 96 _ _ _ (omega arith) (c .worth-place .ensures) (c .before .before .loop .inv .1))
 
 returns : tie.Need-returns Inv-loop μ-loop
 unfolding worthsIn

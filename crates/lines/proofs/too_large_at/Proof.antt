@@ -30,7 +30,8 @@ element-copy-out-result c = search needs
 returns : tie.Need-returns
 returns c =
     let z = c .before .before .before .args in
-    large-field (asSheet 0 (z .n) (z .numbers .now)) (z .i) (z .c) (omega (arith, c .before .before .bundles .ensures .is))
+    large-field (asSheet 0 (z .n) (z .numbers .now)) (z .i) (z .c)
+    (omega (arith, c .before .before .bundles .ensures .is))
 
 returns-2 : tie.Need-returns-2
 returns-2 c =

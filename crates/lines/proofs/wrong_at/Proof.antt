@@ -18,18 +18,21 @@ falls-at-requires c κs = omega arith
 returns : tie.Need-returns
 returns c =
     let z = c .before .before .before .args in
-    c .malformed-at .ensures ∙ wrong-six (z .question) (z .sheet .now) (asSheet 0 (z .n) (z .numbers .now)) (z .i) (z .c) (c .before .match .keys1)
+    c .malformed-at .ensures ∙ wrong-six (z .question) (z .sheet .now) (asSheet 0 (z .n) (z .numbers .now)) (z .i)
+    (z .c) (c .before .match .keys1)
 
 returns-2 : tie.Need-returns-2
 returns-2 c =
     let z = c .before .before .before .args in
-    c .too-large-at .ensures ∙ wrong-seven (z .question) (z .sheet .now) (asSheet 0 (z .n) (z .numbers .now)) (z .i) (z .c) (c .before .match .keys2)
+    c .too-large-at .ensures ∙ wrong-seven (z .question) (z .sheet .now) (asSheet 0 (z .n) (z .numbers .now)) (z .i)
+    (z .c) (c .before .match .keys2)
 
 returns-3 : tie.Need-returns-3
 returns-3 c =
     let z = c .before .before .before .args in
     c .falls-at .ensures
-    ∙ wrong-eight (z .question) (z .sheet .now) (asSheet 0 (z .n) (z .numbers .now)) (z .i) (z .c) (c .before .match .rest .0 .1) (c .before .match .rest .1)
+    ∙ wrong-eight (z .question) (z .sheet .now) (asSheet 0 (z .n) (z .numbers .now)) (z .i) (z .c)
+    (c .before .match .rest .0 .1) (c .before .match .rest .1)
 
 pub wrong-at-spec : {M : Type 1} → statement M
 wrong-at-spec =

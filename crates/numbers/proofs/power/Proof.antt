@@ -5,9 +5,6 @@ use Rattle.numbers.proofs.Numbers.{shifted}
 use Rattle.numbers.proofs.power.Statement.{statement}
 use Rattle.numbers.proofs.power.Tie as tie
 
-shl-result : tie.Need-shl-result
-shl-result c = search needs
-
 returns : tie.Need-returns
 returns c =
     let n = c .args .n in
@@ -15,4 +12,4 @@ returns c =
     record { is = e; most = rw e (pow-mono {i = n} {j = 16} (c .pre)) }
 
 pub power-spec : {M : Type 1} → statement M
-power-spec = tie.close (tie.spec shl-result returns)
+power-spec = tie.close (tie.spec (λ c. search needs) returns)

@@ -5,23 +5,11 @@ use Rattle.printed.proofs.Printing.{print-refused, print-settled}
 use Rattle.printed.proofs.print_sale.Statement.{statement}
 use Rattle.printed.proofs.print_sale.Tie as tie
 
-run-sale-requires : tie.Need-run-sale-requires
-run-sale-requires c κs = search needs
-
-cast-put-refusal : tie.Need-cast-put-refusal
-cast-put-refusal c = search needs
-
 put-refusal-requires : tie.Need-put-refusal-requires
 put-refusal-requires c κs =
     let s = c .before .before .before .before .before .before in
     let fit = prints-fit _ _ _ _ (s .run-sale .ensures) in
     (fit .number, fit .place)
-
-same-length : tie.Need-same-length
-same-length c = search needs
-
-same-length-2 : tie.Need-same-length-2
-same-length-2 c = search needs
 
 returns : tie.Need-returns
 returns c =
@@ -30,44 +18,18 @@ returns c =
     let s = t .before .before .before .before in
     print-refused _ _ _ _ (s .run-sale .ensures) _ _ _ (t .if1 .taken) (p .put-refusal .ensures)
 
-cast-m : tie.Need-cast-m
-cast-m c = search needs
-
-cast-n : tie.Need-cast-n
-cast-n c = search needs
-
 put-settled-requires : tie.Need-put-settled-requires
-put-settled-requires c κs =
-    let s = c .before .before .before .before .before .before .before .before .before .before .before .before in
-    let fit = prints-fit _ _ _ _ (s .run-sale .ensures) in
-    (fit .buyers, fit .lots, fit .rounds, fit .discounts, fit .payments)
-
-same-length-3 : tie.Need-same-length-3
-same-length-3 c = search needs
-
-same-length-4 : tie.Need-same-length-4
-same-length-4 c = search needs
+put-settled-requires c κs = prints-fit _ _ _ _ (c .before .before .before .before .before .run-sale .ensures)
 
 returns-2 : tie.Need-returns-2
 returns-2 c =
     let q = c .before .before in
-    let e = q .before .before .before .before .before .before .before .before .before in
+    let e = q .before .before in
     let s = e .before .before .before .before in
     print-settled _ _ _ _ (s .run-sale .ensures) _ _ _ (e .if1 .left) (q .put-settled .ensures)
 
 pub print-sale-spec : {M : Type 1} → statement M
 print-sale-spec =
     tie.close
-    (tie.spec
-    run-sale-requires
-    cast-put-refusal
-    put-refusal-requires
-    same-length
-    same-length-2
-    returns
-    cast-m
-    cast-n
-    put-settled-requires
-    same-length-3
-    same-length-4
-    returns-2)
+    (tie.spec (λ c κs. search needs) (λ c. search needs) put-refusal-requires (λ c. search needs) (λ c. search needs)
+    returns put-settled-requires (λ c. search needs) (λ c. search needs) returns-2)

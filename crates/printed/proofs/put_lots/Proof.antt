@@ -1,7 +1,7 @@
 -- `printed::put_lots` meets its contract. The invariant: the lines of the first j lots are printed.
 use mathlib.Core.List.{[], _∷_}
 use mathlib.Core.Path.{_≡_, refl, ap, _∙_}
-use Prim.Native.Nat.{_+_, _-_, _≤_}
+use Prim.Native.Nat.{_+_, _-_, _*_, _≤_}
 use native.Mathlib.Omega.{arith}
 use lib.ListN.{length, length-take, length-drop}
 use Rattle.theory.specs.Lists.{tabulate, over}
@@ -29,29 +29,18 @@ long a =
 loop-holds : tie.Need-loop-holds Inv-loop μ-loop
 loop-holds c = (omega arith, refl)
 
-mul-at : tie.Need-mul-at Inv-loop μ-loop
-mul-at c = omega arith
-
-add-lot : tie.Need-add-lot Inv-loop μ-loop
-add-lot c = omega arith
-
-cast-lot : tie.Need-cast-lot Inv-loop μ-loop
-cast-lot c = omega arith
-
-array-read-number : tie.Need-array-read-number Inv-loop μ-loop
-array-read-number c = omega arith
-
 number-requires : tie.Need-number-requires Inv-loop μ-loop
 number-requires c κs = tt
 
+-- a lot's line has room
+room : (a : tie.In-loop Inv-loop μ-loop) → 13 * a .before .loop .j + 13 ≤ length (a .before .loop .out)
+room a = omega (arith, long (a .before), a .before .before .before .pre .1)
+
 sub-put-line : tie.Need-sub-put-line Inv-loop μ-loop
-sub-put-line c = let a = c .before .before in omega (arith, long a, a .before .before .pre .1)
+sub-put-line c = omega (arith, room (c .before))
 
 part-put-line-start : tie.Need-part-put-line-start Inv-loop μ-loop
-part-put-line-start c = let a = c .before .before in omega (arith, long a, a .before .before .pre .1)
-
-part-put-line-end : tie.Need-part-put-line-end Inv-loop μ-loop
-part-put-line-end c = omega arith
+part-put-line-start c = omega (arith, room (c .before))
 
 slice-aggregate-put-line : tie.Need-slice-aggregate-put-line Inv-loop μ-loop
 slice-aggregate-put-line c = refl
@@ -61,15 +50,9 @@ put-line-requires c κs =
     let o = c .before .before in
     let a = o .before .before in
     let s = a .before .before in (
-      simp (length-take, length-drop) (omega (arith, long a, s .pre .1)),
+      simp (length-take, length-drop) (omega (arith, room (o .before))),
       two-small 1000000 _ _ (omega (arith, s .pre .0)) (omega (arith, o .number .ensures .most)),
     )
-
-add-j : tie.Need-add-j Inv-loop μ-loop
-add-j c = omega arith
-
-loop-less : tie.Need-loop-less Inv-loop μ-loop
-loop-less c = omega arith
 
 loop-again : tie.Need-loop-again Inv-loop μ-loop
 loop-again c =
@@ -97,22 +80,6 @@ returns c =
 pub put-lots-spec : {M : Type 1} → statement M
 put-lots-spec =
     tie.close
-    (tie.spec
-    Inv-loop
-    μ-loop
-    loop-holds
-    mul-at
-    add-lot
-    cast-lot
-    array-read-number
-    number-requires
-    sub-put-line
-    part-put-line-start
-    part-put-line-end
-    slice-aggregate-put-line
-    put-line-requires
-    add-j
-    loop-less
-    loop-again
-    same-length
-    returns)
+    (tie.spec Inv-loop μ-loop loop-holds (λ c. omega arith) (λ c. omega arith) (λ c. omega arith) (λ c. omega arith)
+    number-requires sub-put-line part-put-line-start (λ c. omega arith) slice-aggregate-put-line put-line-requires
+    (λ c. omega arith) (λ c. omega arith) loop-again same-length returns)

@@ -2,10 +2,11 @@
 use mathlib.Core.List.{[], _∷_}
 use mathlib.Core.Path.{refl, sym}
 use native.Mathlib.Omega.{arith}
+use borrow.Author.Needs.{needs}
 use Rattle.fields.specs.Fields.{lineOf}
 use Rattle.fields.proofs.Lines.{line-length}
 use Rattle.printing.proofs.Fours.{two-small}
-use Rattle.printed.proofs.Parts.{puts-none, puts-whole, line-long}
+use Rattle.printed.proofs.Parts.{puts-none, puts-whole}
 use Rattle.printed.proofs.put_refusal.Statement.{statement}
 use Rattle.printed.proofs.put_refusal.Tie as tie
 
@@ -24,13 +25,6 @@ put-line-requires c κs =
     let s = e .before .before in
     (omega (arith, e .if1 .left), two-small 1000000 _ _ (s .pre .0) (s .pre .1))
 
-same-length : tie.Need-same-length
-same-length c =
-    let put = c .before .before in
-    let e = put .before .before .before in
-    let z = e .before .before .args in
-    line-long (z .number ∷ z .place ∷ []) (z .out .now) _ (omega (arith, e .if1 .left)) (put .put-line .ensures)
-
 returns-2 : tie.Need-returns-2
 returns-2 c =
     let put = c .before .before in
@@ -42,4 +36,4 @@ returns-2 c =
 
 pub put-refusal-spec : {M : Type 1} → statement M
 put-refusal-spec =
-    tie.close (tie.spec returns slice-aggregate-put-line put-line-requires same-length returns-2)
+    tie.close (tie.spec returns slice-aggregate-put-line put-line-requires (λ c. search needs) returns-2)

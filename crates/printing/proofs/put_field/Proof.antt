@@ -3,7 +3,8 @@ use mathlib.Core.Logic.{⊎-elim}
 use mathlib.Core.Path.{sym, _∙_}
 use Prim.Native.Nat.{_-_}
 use native.Mathlib.Omega.{arith}
-use Rattle.printing.proofs.Columns.{Putting, put-none, put-all, put-digit, put-blank, digit-small, share-some, put-long}
+use Rattle.printing.proofs.Columns.{Putting, put-none, put-all, put-digit, put-blank, digit-small, share-some}
+use Rattle.printing.proofs.Columns.{put-long}
 use Rattle.printing.proofs.put_field.Statement.{statement}
 use Rattle.printing.proofs.put_field.Tie as tie
 
@@ -20,18 +21,35 @@ has-digit-requires : tie.Need-has-digit-requires Inv-loop μ-loop
 has-digit-requires c κs = tt
 
 div-out : tie.Need-div-out Inv-loop μ-loop
-div-out c = share-some _ _ _ _ _ _ _ (c .before .before .before .loop .inv) (c .before .before .loop-test .taken) (c .before .before .before .before .before .pre .0)
+div-out c =
+    share-some _ _ _ _ _ _ _ (c .before .before .before .loop .inv) (c .before .before .loop-test .taken)
+    (c .before .before .before .before .before .pre .0)
 
 cast-out : tie.Need-cast-out Inv-loop μ-loop
-cast-out c = omega (arith, digit-small _ _ _ _ _ _ _ (c .before .before .before .loop .inv) (c .before .before .loop-test .taken) (c .before .before .before .before .before .pre .0))
+cast-out c =
+    omega (
+      arith,
+      digit-small _ _ _ _ _ _ _ (c .before .before .before .loop .inv) (c .before .before .loop-test .taken)
+          (c .before .before .before .before .before .pre .0),
+    )
 
 add-out : tie.Need-add-out Inv-loop μ-loop
-add-out c = omega (arith, digit-small _ _ _ _ _ _ _ (c .before .before .before .loop .inv) (c .before .before .loop-test .taken) (c .before .before .before .before .before .pre .0))
+add-out c =
+    omega (
+      arith,
+      digit-small _ _ _ _ _ _ _ (c .before .before .before .loop .inv) (c .before .before .loop-test .taken)
+          (c .before .before .before .before .before .pre .0),
+    )
 
 slice-write-out : tie.Need-slice-write-out Inv-loop μ-loop
 slice-write-out c =
     let room = c .before .before .before .before .before .pre .0 in
-    omega (arith, room, put-long _ _ _ _ _ _ _ (c .before .before .before .loop .inv) room, c .before .before .loop-test .taken)
+    omega (
+      arith,
+      room,
+      put-long _ _ _ _ _ _ _ (c .before .before .before .loop .inv) room,
+      c .before .before .loop-test .taken,
+    )
 
 rem-rest : tie.Need-rem-rest Inv-loop μ-loop
 rem-rest c = div-out c
@@ -39,13 +57,12 @@ rem-rest c = div-out c
 slice-write-out-2 : tie.Need-slice-write-out-2 Inv-loop μ-loop
 slice-write-out-2 c =
     let room = c .before .before .before .before .before .pre .0 in
-    omega (arith, room, put-long _ _ _ _ _ _ _ (c .before .before .before .loop .inv) room, c .before .before .loop-test .taken)
-
-add-k : tie.Need-add-k Inv-loop μ-loop
-add-k c = omega arith
-
-loop-less : tie.Need-loop-less Inv-loop μ-loop
-loop-less c = omega arith
+    omega (
+      arith,
+      room,
+      put-long _ _ _ _ _ _ _ (c .before .before .before .loop .inv) room,
+      c .before .before .loop-test .taken,
+    )
 
 loop-again : tie.Need-loop-again Inv-loop μ-loop
 loop-again c =
@@ -54,8 +71,10 @@ loop-again c =
     let more = c .before .before .loop-test .taken in
     let told = c .before .has-digit in
     ⊎-elim
-    (λ w. rw (w .0 .taken, w .1, w .2) (put-digit _ _ _ _ _ _ _ (l .loop .inv) more room (sym (told .ensures) ∙ w .0 .taken)))
-    (λ w. rw (w .0 .left, w .1, w .2) (put-blank _ _ _ _ _ _ _ (l .loop .inv) more room (sym (told .ensures) ∙ w .0 .left)))
+    (λ w. rw (w .0 .taken, w .1, w .2)
+    (put-digit _ _ _ _ _ _ _ (l .loop .inv) more room (sym (told .ensures) ∙ w .0 .taken)))
+    (λ w. rw (w .0 .left, w .1, w .2)
+    (put-blank _ _ _ _ _ _ _ (l .loop .inv) more room (sym (told .ensures) ∙ w .0 .left)))
     (c .if1 .came)
 
 same-length : tie.Need-same-length Inv-loop μ-loop
@@ -67,19 +86,5 @@ returns c = put-all _ _ _ _ _ _ _ (c .before .loop .inv) (c .loop-test .left)
 pub put-field-spec : {M : Type 1} → statement M
 put-field-spec =
     tie.close
-    (tie.spec
-    Inv-loop
-    μ-loop
-    loop-holds
-    has-digit-requires
-    div-out
-    cast-out
-    add-out
-    slice-write-out
-    rem-rest
-    slice-write-out-2
-    add-k
-    loop-less
-    loop-again
-    same-length
-    returns)
+    (tie.spec Inv-loop μ-loop loop-holds has-digit-requires div-out cast-out add-out slice-write-out rem-rest
+    slice-write-out-2 (λ c. omega arith) (λ c. omega arith) loop-again same-length returns)

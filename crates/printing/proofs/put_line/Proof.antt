@@ -26,35 +26,17 @@ long a =
     fields-long (s .args .numbers .now) (s .args .out .now) (a .loop .k) (a .loop .out) (a .loop .inv .1)
     (a .loop .inv .0) (omega (arith, s .pre .0, a .loop .inv .0))
 
-mul-at : tie.Need-mul-at Inv-loop μ-loop
-mul-at c = omega arith
-
-mul-n : tie.Need-mul-n Inv-loop μ-loop
-mul-n c = omega arith
-
-shared-slice-read-n : tie.Need-shared-slice-read-n Inv-loop μ-loop
-shared-slice-read-n c = omega arith
-
 sub-put-field : tie.Need-sub-put-field Inv-loop μ-loop
 sub-put-field c = let a = c .before .before in omega (arith, long a, a .before .before .before .pre .0)
 
 part-put-field-start : tie.Need-part-put-field-start Inv-loop μ-loop
 part-put-field-start c = let a = c .before .before in omega (arith, long a, a .before .before .before .pre .0)
 
-part-put-field-end : tie.Need-part-put-field-end Inv-loop μ-loop
-part-put-field-end c = omega arith
-
 put-field-requires : tie.Need-put-field-requires Inv-loop μ-loop
 put-field-requires c κs =
     let a = c .before .before .before in
     let s = a .before .before .before in
     (simp (length-take, length-drop) (omega (arith, long a, s .pre .0)), s .pre .1 (a .loop .k))
-
-add-k : tie.Need-add-k Inv-loop μ-loop
-add-k c = omega arith
-
-loop-less : tie.Need-loop-less Inv-loop μ-loop
-loop-less c = omega arith
 
 loop-again : tie.Need-loop-again Inv-loop μ-loop
 loop-again c =
@@ -64,9 +46,6 @@ loop-again c =
       fields-more (s .args .numbers .now) (s .args .out .now) (a .loop .k) (a .loop .out) (a .loop .inv .1)
           (a .loop .inv .0) (omega arith) (omega (arith, s .pre .0)) _ refl _ (c .before .before .put-field .ensures),
     )
-
-mul-end : tie.Need-mul-end Inv-loop μ-loop
-mul-end c = omega arith
 
 slice-write-out : tie.Need-slice-write-out Inv-loop μ-loop
 slice-write-out c = omega (arith, long (c .before), c .before .before .before .before .pre .0)
@@ -89,21 +68,6 @@ returns c =
 pub put-line-spec : {M : Type 1} → statement M
 put-line-spec =
     tie.close
-    (tie.spec
-    Inv-loop
-    μ-loop
-    loop-holds
-    mul-at
-    mul-n
-    shared-slice-read-n
-    sub-put-field
-    part-put-field-start
-    part-put-field-end
-    put-field-requires
-    add-k
-    loop-less
-    loop-again
-    mul-end
-    slice-write-out
-    same-length
-    returns)
+    (tie.spec Inv-loop μ-loop loop-holds (λ c. omega arith) (λ c. omega arith) (λ c. omega arith) sub-put-field
+    part-put-field-start (λ c. omega arith) put-field-requires (λ c. omega arith) (λ c. omega arith) loop-again
+    (λ c. omega arith) slice-write-out same-length returns)

@@ -9,7 +9,8 @@ use borrow.Author.Needs.{needs}
 use borrow.Author.Tests.{not-true, not-false}
 use Rattle.sheet.specs.Questions.{between}
 use Rattle.reading.specs.declared.Head.{Head}
-use Rattle.reading.proofs.Asking.{between-ends, short-sheet, bad-head, bad-buyers, bad-lots, bad-length, head-passes}
+use Rattle.reading.proofs.Asking.{between-ends, short-sheet, bad-head, bad-buyers, bad-lots, bad-length}
+use Rattle.reading.proofs.Asking.{head-passes}
 use Rattle.numbers.proofs.Numbers.{product-small}
 use Rattle.reading.proofs.ask_head.Statement.{statement}
 use Rattle.reading.proofs.ask_head.Tie as tie
@@ -59,8 +60,8 @@ returns-3 : tie.Need-returns-3
 returns-3 c =
     let e = c .before .before .before in
     let p = e .before .before in
-    bad-buyers (sheet p) (long p) (head p) (p .read-head .ensures) (e .if2 .left) (c .turned-down2 .result) (c .turned-down2 .ensures)
-    (sym (c .before .before .is-between .ensures) ∙ not-true _ (c .before .if3 .taken))
+    bad-buyers (sheet p) (long p) (head p) (p .read-head .ensures) (e .if2 .left) (c .turned-down2 .result)
+    (c .turned-down2 .ensures) (sym (c .before .before .is-between .ensures) ∙ not-true _ (c .before .if3 .taken))
 
 is-between-requires-2 : tie.Need-is-between-requires-2
 is-between-requires-2 c κs = search needs
@@ -72,7 +73,8 @@ returns-4 : tie.Need-returns-4
 returns-4 c =
     let e = c .before .before .before in
     let p = e .before .before .before .before in
-    bad-lots (sheet p) (long p) (head p) (p .read-head .ensures) (e .before .before .if2 .left) (few-buyers e) (c .turned-down3 .result) (c .turned-down3 .ensures)
+    bad-lots (sheet p) (long p) (head p) (p .read-head .ensures) (e .before .before .if2 .left) (few-buyers e)
+    (c .turned-down3 .result) (c .turned-down3 .ensures)
     (sym (c .before .before .is-between2 .ensures) ∙ not-true _ (c .before .if4 .taken))
 
 line-length-requires : tie.Need-line-length-requires
@@ -82,13 +84,21 @@ mul-if5 : tie.Need-mul-if5
 mul-if5 c =
     let e = c .before .before .before .before in
     let m = head (e .before .before .before .before) .buyers in
-    omega (arith, product-small m (c .before .line-length .result) 6 91 (between-ends 6 m (few-buyers e) .1) (c .before .line-length .ensures .most))
+    omega (
+      arith,
+      product-small m (c .before .line-length .result) 6 91 (between-ends 6 m (few-buyers e) .1)
+          (c .before .line-length .ensures .most),
+    )
 
 add-if5 : tie.Need-add-if5
 add-if5 c =
     let e = c .before .before .before .before in
     let m = head (e .before .before .before .before) .buyers in
-    omega (arith, product-small m (c .before .line-length .result) 6 91 (between-ends 6 m (few-buyers e) .1) (c .before .line-length .ensures .most))
+    omega (
+      arith,
+      product-small m (c .before .line-length .result) 6 91 (between-ends 6 m (few-buyers e) .1)
+          (c .before .line-length .ensures .most),
+    )
 
 turned-down-requires-4 : tie.Need-turned-down-requires-4
 turned-down-requires-4 c κs = search needs
@@ -98,16 +108,18 @@ returns-5 c =
     let l = c .before .before .before in
     let e = l .before in
     let p = e .before .before .before .before .before .before in
-    bad-length (sheet p) (long p) (head p) (p .read-head .ensures) (e .before .before .before .before .if2 .left) (few-buyers (e .before .before)) (few-lots e)
-    (l .line-length .result) (l .line-length .ensures .is) (c .turned-down4 .result) (c .turned-down4 .ensures) (c .before .if5 .taken)
+    bad-length (sheet p) (long p) (head p) (p .read-head .ensures) (e .before .before .before .before .if2 .left)
+    (few-buyers (e .before .before)) (few-lots e) (l .line-length .result) (l .line-length .ensures .is)
+    (c .turned-down4 .result) (c .turned-down4 .ensures) (c .before .if5 .taken)
 
 returns-6 : tie.Need-returns-6
 returns-6 c =
     let l = c .before .before in
     let e = l .before in
     let p = e .before .before .before .before .before .before in
-    head-passes (sheet p) (long p) (head p) (p .read-head .ensures) (e .before .before .before .before .if2 .left) (few-buyers (e .before .before)) (few-lots e)
-    (l .line-length .result) (l .line-length .ensures .is) (c .if5 .left)
+    head-passes (sheet p) (long p) (head p) (p .read-head .ensures) (e .before .before .before .before .if2 .left)
+    (few-buyers (e .before .before)) (few-lots e) (l .line-length .result) (l .line-length .ensures .is)
+    (c .if5 .left)
 
 pub ask-head-spec : {M : Type 1} → statement M
 ask-head-spec =

@@ -57,8 +57,8 @@ returns-2 : tie.Need-returns-2
 returns-2 c =
     let q = c .before .before .before .before in
     let p = q .before .before in
-    second-faulty (sheet p) (long p) (first p) (second p) (p .before .read-field .ensures) (p .read-field2 .ensures) _ (q .buyers .given .1)
-    (c .turned-down2 .result) (c .turned-down2 .ensures) _ (c .before .enum-told2 .given .1)
+    second-faulty (sheet p) (long p) (first p) (second p) (p .before .read-field .ensures) (p .read-field2 .ensures) _
+    (q .buyers .given .1) (c .turned-down2 .result) (c .turned-down2 .ensures) _ (c .before .enum-told2 .given .1)
 
 byte-at-requires : tie.Need-byte-at-requires
 byte-at-requires c κs = search needs
@@ -71,8 +71,10 @@ returns-3 c =
     let t = c .before .before in
     let q = t .before .before .before .before .before in
     let p = q .before .before in
-    end-faulty (sheet p) (long p) (first p) (second p) (p .before .read-field .ensures) (p .read-field2 .ensures) _ (q .buyers .given .1) _ (t .before .before .lots .given .1)
-    (t .byte-at .result) (t .byte-at .ensures) (c .turned-down3 .result) (c .turned-down3 .ensures) (c .before .if1 .taken)
+    end-faulty (sheet p) (long p) (first p) (second p) (p .before .read-field .ensures) (p .read-field2 .ensures) _
+    (q .buyers .given .1) _ (t .before .before .lots .given .1)
+    (t .byte-at .result) (t .byte-at .ensures) (c .turned-down3 .result) (c .turned-down3 .ensures)
+    (c .before .if1 .taken)
 
 cast-t10 : tie.Need-cast-t10
 cast-t10 c = search needs
@@ -85,7 +87,8 @@ returns-4 c =
     let t = c .before in
     let q = t .before .before .before .before .before in
     let p = q .before .before in
-    head-good (sheet p) (long p) (first p) (second p) (p .before .read-field .ensures) (p .read-field2 .ensures) _ (q .buyers .given .1) _ (t .before .before .lots .given .1)
+    head-good (sheet p) (long p) (first p) (second p) (p .before .read-field .ensures) (p .read-field2 .ensures) _
+    (q .buyers .given .1) _ (t .before .before .lots .given .1)
     (t .byte-at .result) (t .byte-at .ensures) (c .if1 .left)
 
 pub read-head-spec : {M : Type 1} → statement M

@@ -15,7 +15,8 @@ refused-requires c κs = search needs
 returns : tie.Need-returns
 returns c =
     let p = c .before .before .before in
-    refused-head (p .before .before .args .sheet .now) (p .ask-head .result) (p .ask-head .ensures) (c .before .if1 .taken) (c .refused .result) (c .refused .ensures)
+    refused-head (p .before .before .args .sheet .now) (p .ask-head .result) (p .ask-head .ensures)
+    (c .before .if1 .taken) (c .refused .result) (c .refused .ensures)
 
 -- the first line passes
 module _ (p : tie.Else1) where
@@ -36,7 +37,8 @@ returns-2 c =
     let l = c .before .before .before in
     let q = l .before .before in
     let p = q .before in
-    refused-lines (p .before .before .before .before .args .sheet .now) (p .before .before .ask-head .result) (passed p) (q .read-numbers .result) (q .read-numbers .ensures)
+    refused-lines (p .before .before .before .before .args .sheet .now) (p .before .before .ask-head .result) (passed p)
+    (q .read-numbers .result) (q .read-numbers .ensures)
     (l .ask-lines .result) (l .ask-lines .ensures) (c .before .if2 .taken) (c .refused2 .result) (c .refused2 .ensures)
 
 cast-t10 : tie.Need-cast-t10
@@ -50,7 +52,8 @@ narrowed-requires c κs =
     let l = c .before .before .before in
     let q = l .before .before in
     let p = q .before in
-    small-worths (p .before .before .before .before .args .sheet .now) (p .before .before .ask-head .result) (passed p) (q .read-numbers .result) (q .read-numbers .ensures)
+    small-worths (p .before .before .before .before .args .sheet .now) (p .before .before .ask-head .result) (passed p)
+    (q .read-numbers .result) (q .read-numbers .ensures)
     (l .ask-lines .result) (l .ask-lines .ensures) (c .before .if2 .left)
 
 returns-3 : tie.Need-returns-3
@@ -58,8 +61,10 @@ returns-3 c =
     let l = c .before .before .before .before in
     let q = l .before .before in
     let p = q .before in
-    accepted-worths (p .before .before .before .before .args .sheet .now) (p .before .before .ask-head .result) (passed p) (q .read-numbers .result) (q .read-numbers .ensures)
-    (l .ask-lines .result) (l .ask-lines .ensures) (c .before .before .if2 .left) (c .narrowed .result) (c .narrowed .ensures)
+    accepted-worths (p .before .before .before .before .args .sheet .now) (p .before .before .ask-head .result)
+    (passed p) (q .read-numbers .result) (q .read-numbers .ensures)
+    (l .ask-lines .result) (l .ask-lines .ensures) (c .before .before .if2 .left) (c .narrowed .result)
+    (c .narrowed .ensures)
 
 pub read-worths-spec : {M : Type 1} → statement M
 read-worths-spec =

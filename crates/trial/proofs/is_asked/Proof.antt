@@ -22,9 +22,6 @@ returns c = not-long _ (c .if1 .taken)
 loop-holds : tie.Need-loop-holds Inv-loop μ-loop
 loop-holds c = (omega arith, refl)
 
-mul-field-good : tie.Need-mul-field-good Inv-loop μ-loop
-mul-field-good c = omega arith
-
 field-good-requires : tie.Need-field-good-requires Inv-loop μ-loop
 field-good-requires c κs = tt
 
@@ -35,12 +32,6 @@ returns-2 c =
     not-good b (l .before .if1 .left)
     (every-failed (λ j. good (fieldAt (6 * j) b)) 4 (l .loop .k) (goodFields b) (omega arith) (l .loop .inv .1)
     (sym (c .before .field-good .ensures) ∙ not-true _ (c .if2 .taken)))
-
-add-k : tie.Need-add-k Inv-loop μ-loop
-add-k c = omega arith
-
-loop-less : tie.Need-loop-less Inv-loop μ-loop
-loop-less c = omega arith
 
 loop-again : tie.Need-loop-again Inv-loop μ-loop
 loop-again c =
@@ -66,16 +57,5 @@ returns-3 c =
 pub is-asked-spec : {M : Type 1} → statement M
 is-asked-spec =
     tie.close
-    (tie.spec
-    Inv-loop
-    μ-loop
-    returns
-    loop-holds
-    mul-field-good
-    field-good-requires
-    returns-2
-    add-k
-    loop-less
-    loop-again
-    field-number-requires
-    returns-3)
+    (tie.spec Inv-loop μ-loop returns loop-holds (λ c. omega arith) field-good-requires returns-2 (λ c. omega arith)
+    (λ c. omega arith) loop-again field-number-requires returns-3)

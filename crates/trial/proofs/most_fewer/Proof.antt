@@ -26,19 +26,15 @@ worth-without-requires : tie.Need-worth-without-requires Inv-loop μ-loop
 worth-without-requires c κs =
     let z = c .before .before .before in (omega arith, omega arith, z .pre .2)
 
-add-j : tie.Need-add-j Inv-loop μ-loop
-add-j c = omega arith
-
-loop-less : tie.Need-loop-less Inv-loop μ-loop
-loop-less c = omega arith
-
 loop-again : tie.Need-loop-again Inv-loop μ-loop
 loop-again c =
     let l = c .before .before .before in
     let z = l .before .before .args in
     let p = c .before .worth-without in
     let f = worthWithout (rowWorth (z .row .now)) (z .s) in
-    let next = most-more (z .n) (l .loop .j) (c .before .before .loop-test .taken) f (l .loop .most) (c .if1 .most) _ (l .loop .inv .2) in
+    let next =
+    most-more (z .n) (l .loop .j) (c .before .before .loop-test .taken) f (l .loop .most) (c .if1 .most) _
+    (l .loop .inv .2) in
     ⊎-elim
     (λ w. (omega arith, omega (arith, p .ensures .most), next (omega (arith, p .ensures .is))))
     (λ w. (omega arith, omega arith, next (omega (arith, p .ensures .is))))
@@ -57,4 +53,5 @@ returns c =
 
 pub most-fewer-spec : {M : Type 1} → statement M
 most-fewer-spec =
-    tie.close (tie.spec Inv-loop μ-loop loop-holds worth-without-requires add-j loop-less loop-again returns)
+    tie.close (tie.spec Inv-loop μ-loop loop-holds worth-without-requires (λ c. omega arith) (λ c. omega arith)
+    loop-again returns)

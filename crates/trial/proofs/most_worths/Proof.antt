@@ -22,14 +22,8 @@ Inv-loop number n top size g₀ t₀ k₀ g t k =
 abbrev μ-loop : tie.MeasureT-loop
 μ-loop number n top size g₀ t₀ k₀ g t k = 90 - k
 
-bundles-requires : tie.Need-bundles-requires Inv-loop μ-loop
-bundles-requires c κs = omega arith
-
 sub-size : tie.Need-sub-size Inv-loop μ-loop
 sub-size c = omega (arith, c .bundles .ensures .is, pow-some (c .before .args .n))
-
-mul-after-draws : tie.Need-mul-after-draws Inv-loop μ-loop
-mul-after-draws c = omega arith
 
 after-draws-requires : tie.Need-after-draws-requires Inv-loop μ-loop
 after-draws-requires c κs = tt
@@ -86,18 +80,6 @@ rem-c c = some c
 sub-from : tie.Need-sub-from Inv-loop μ-loop
 sub-from c = inside c
 
-mul-most-fewer : tie.Need-mul-most-fewer Inv-loop μ-loop
-mul-most-fewer c = omega arith
-
-sub-most-fewer : tie.Need-sub-most-fewer Inv-loop μ-loop
-sub-most-fewer c = omega arith
-
-part-most-fewer-start : tie.Need-part-most-fewer-start Inv-loop μ-loop
-part-most-fewer-start c = omega arith
-
-part-most-fewer-end : tie.Need-part-most-fewer-end Inv-loop μ-loop
-part-most-fewer-end c = omega arith
-
 add-most-fewer : tie.Need-add-most-fewer Inv-loop μ-loop
 add-most-fewer c = omega (arith, inside (c .before .before))
 
@@ -112,18 +94,6 @@ most-fewer-requires c κs =
 
 raised-by-requires : tie.Need-raised-by-requires Inv-loop μ-loop
 raised-by-requires c κs = (omega arith, c .most-fewer .ensures .most)
-
-mul-t : tie.Need-mul-t Inv-loop μ-loop
-mul-t c = omega arith
-
-array-write-t : tie.Need-array-write-t Inv-loop μ-loop
-array-write-t c = omega arith
-
-add-k : tie.Need-add-k Inv-loop μ-loop
-add-k c = omega arith
-
-loop-less : tie.Need-loop-less Inv-loop μ-loop
-loop-less c = omega arith
 
 loop-again : tie.Need-loop-again Inv-loop μ-loop
 loop-again c =
@@ -148,27 +118,7 @@ returns c = filled-all _ 90 _ _ (omega arith) (c .before .loop .inv .2)
 pub most-worths-spec : {M : Type 1} → statement M
 most-worths-spec =
     tie.close
-    (tie.spec
-    Inv-loop
-    μ-loop
-    bundles-requires
-    sub-size
-    mul-after-draws
-    after-draws-requires
-    loop-holds
-    draw-requires
-    rem-c
-    sub-from
-    mul-most-fewer
-    sub-most-fewer
-    part-most-fewer-start
-    part-most-fewer-end
-    add-most-fewer
-    most-fewer-requires
-    raised-by-requires
-    mul-t
-    array-write-t
-    add-k
-    loop-less
-    loop-again
-    returns)
+    (tie.spec Inv-loop μ-loop (λ c κs. omega arith) sub-size (λ c. omega arith) after-draws-requires loop-holds
+    draw-requires rem-c sub-from (λ c. omega arith) (λ c. omega arith) (λ c. omega arith) (λ c. omega arith)
+    add-most-fewer most-fewer-requires raised-by-requires (λ c. omega arith) (λ c. omega arith) (λ c. omega arith)
+    (λ c. omega arith) loop-again returns)

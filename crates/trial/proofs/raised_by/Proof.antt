@@ -8,12 +8,6 @@ use Rattle.numbers.proofs.Numbers.{place-below}
 use Rattle.trial.proofs.raised_by.Statement.{statement}
 use Rattle.trial.proofs.raised_by.Tie as tie
 
-add-sum : tie.Need-add-sum
-add-sum c = search needs
-
-rem-sum : tie.Need-rem-sum
-rem-sum c = search needs
-
 add-sum-2 : tie.Need-add-sum-2
 add-sum-2 c =
     let z = c .args in
@@ -32,4 +26,4 @@ returns-2 c =
     omega arith
 
 pub raised-by-spec : {M : Type 1} → statement M
-raised-by-spec = tie.close (tie.spec add-sum rem-sum add-sum-2 returns returns-2)
+raised-by-spec = tie.close (tie.spec (λ c. search needs) (λ c. search needs) add-sum-2 returns returns-2)

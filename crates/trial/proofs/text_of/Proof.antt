@@ -6,30 +6,12 @@ use Rattle.trial.proofs.Texts.{refused-long, place-none, lines-written,
 use Rattle.trial.proofs.text_of.Statement.{statement}
 use Rattle.trial.proofs.text_of.Tie as tie
 
-slice-aggregate-trial-sheet : tie.Need-slice-aggregate-trial-sheet
-slice-aggregate-trial-sheet c = search needs
-
-trial-sheet-requires : tie.Need-trial-sheet-requires
-trial-sheet-requires c κs = search needs
-
-cast-length : tie.Need-cast-length
-cast-length c = search needs
-
 returns : tie.Need-returns
 returns c =
     let p = c .before .before .before .before in
     let z = p .before .before .args in
     lines-written (z .number) (z .buyers) (z .lots) (z .top) _ (p .trial-sheet .result) (p .trial-sheet .ensures)
     (c .before .if1 .taken)
-
-cast-t13 : tie.Need-cast-t13
-cast-t13 c = search needs
-
-slice-aggregate-put-line : tie.Need-slice-aggregate-put-line
-slice-aggregate-put-line c = search needs
-
-slice-aggregate-put-line-2 : tie.Need-slice-aggregate-put-line-2
-slice-aggregate-put-line-2 c = search needs
 
 put-line-requires : tie.Need-put-line-requires
 put-line-requires c κs =
@@ -57,13 +39,5 @@ returns-2 c =
 pub text-of-spec : {M : Type 1} → statement M
 text-of-spec =
     tie.close
-    (tie.spec
-    slice-aggregate-trial-sheet
-    trial-sheet-requires
-    cast-length
-    returns
-    cast-t13
-    slice-aggregate-put-line
-    slice-aggregate-put-line-2
-    put-line-requires
-    returns-2)
+    (tie.spec (λ c. search needs) (λ c κs. search needs) (λ c. search needs) returns (λ c. search needs)
+    (λ c. search needs) (λ c. search needs) put-line-requires returns-2)

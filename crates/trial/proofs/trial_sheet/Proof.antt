@@ -18,12 +18,6 @@ use Rattle.trial.proofs.Answers.{says-refused, says-written}
 use Rattle.trial.proofs.trial_sheet.Statement.{statement}
 use Rattle.trial.proofs.trial_sheet.Tie as tie
 
-is-between-requires : tie.Need-is-between-requires
-is-between-requires c κs = search needs
-
-refused-requires : tie.Need-refused-requires
-refused-requires c κs = search needs
-
 returns : tie.Need-returns
 returns c =
     let p = c .before .before in
@@ -32,15 +26,9 @@ returns c =
     (bad-buyers (z .buyers) (z .lots) (z .top) _ (sym (p .is-between .ensures) ∙ not-true _ (c .before .if1 .taken)))
     (λ e. omega arith) _ (c .refused .ensures)
 
-is-between-requires-2 : tie.Need-is-between-requires-2
-is-between-requires-2 c κs = search needs
-
 -- buyers are good
 good-buyers : (p : tie.Else1) → between 6 (p .before .before .before .args .buyers) ≡ true
 good-buyers p = sym (p .before .is-between .ensures) ∙ not-false _ (p .if1 .left)
-
-refused-requires-2 : tie.Need-refused-requires-2
-refused-requires-2 c κs = search needs
 
 returns-2 : tie.Need-returns-2
 returns-2 c =
@@ -54,9 +42,6 @@ returns-2 c =
 -- and lots
 good-lots : (p : tie.Else2) → between 4 (p .before .before .before .before .before .args .lots) ≡ true
 good-lots p = sym (p .before .is-between2 .ensures) ∙ not-false _ (p .if2 .left)
-
-refused-requires-3 : tie.Need-refused-requires-3
-refused-requires-3 c κs = search needs
 
 returns-3 : tie.Need-returns-3
 returns-3 c =
@@ -123,12 +108,6 @@ array-share-prefix-worths c = inside c
 slice-aggregate-write-sheet : tie.Need-slice-aggregate-write-sheet
 slice-aggregate-write-sheet c = sym (length-take-le (count (c .before)) _ (inside (c .before)))
 
-write-sheet-requires : tie.Need-write-sheet-requires
-write-sheet-requires c κs = search needs
-
-same-length : tie.Need-same-length
-same-length c = search needs
-
 returns-4 : tie.Need-returns-4
 returns-4 c =
     let w = c .before .before in
@@ -140,21 +119,6 @@ returns-4 c =
 pub trial-sheet-spec : {M : Type 1} → statement M
 trial-sheet-spec =
     tie.close
-    (tie.spec
-    is-between-requires
-    refused-requires
-    returns
-    is-between-requires-2
-    refused-requires-2
-    returns-2
-    refused-requires-3
-    returns-3
-    most-worths-requires
-    bundles-requires
-    sub-count
-    mul-count
-    array-share-prefix-worths
-    slice-aggregate-write-sheet
-    write-sheet-requires
-    same-length
-    returns-4)
+    (tie.spec (λ c κs. search needs) (λ c κs. search needs) returns (λ c κs. search needs) (λ c κs. search needs)
+    returns-2 (λ c κs. search needs) returns-3 most-worths-requires bundles-requires sub-count mul-count
+    array-share-prefix-worths slice-aggregate-write-sheet (λ c κs. search needs) (λ c. search needs) returns-4)

@@ -7,16 +7,10 @@ use Rattle.trial.proofs.Rows.{without-lot, lot-below, without-all, with
 use Rattle.trial.proofs.worth_without.Statement.{statement}
 use Rattle.trial.proofs.worth_without.Tie as tie
 
-has-requires : tie.Need-has-requires
-has-requires c κs = search needs
-
 returns : tie.Need-returns
 returns c =
     let z = c .before .before .before .args in
     without-lot (z .row .now) (z .s) (z .j) _ (c .before .has .ensures) (not-true _ (c .if1 .taken))
-
-bundles-requires : tie.Need-bundles-requires
-bundles-requires c κs = search needs
 
 sub-rest : tie.Need-sub-rest
 sub-rest c =
@@ -30,12 +24,6 @@ returns-2 c =
     let z = b .before .before .before .before .args in
     without-all (z .row .now) (z .s) (z .j) _ (b .before .before .has .ensures) (not-false _ (b .before .if1 .left)) _
     (b .bundles .ensures .is) (c .if2 .taken)
-
-sub-result : tie.Need-sub-result
-sub-result c = search needs
-
-mul-result : tie.Need-mul-result
-mul-result c = search needs
 
 shared-slice-read-result : tie.Need-shared-slice-read-result
 shared-slice-read-result c =
@@ -52,13 +40,5 @@ returns-3 c =
 pub worth-without-spec : {M : Type 1} → statement M
 worth-without-spec =
     tie.close
-    (tie.spec
-    has-requires
-    returns
-    bundles-requires
-    sub-rest
-    returns-2
-    sub-result
-    mul-result
-    shared-slice-read-result
-    returns-3)
+    (tie.spec (λ c κs. search needs) returns (λ c κs. search needs) sub-rest returns-2 (λ c. search needs)
+    (λ c. search needs) shared-slice-read-result returns-3)

@@ -94,17 +94,11 @@ left l =
     (t .table-of .ensures) (asked d .ask-each .result) (asked d .ask-each .ensures) (d .if4 .left)
     (a .ask-each2 .result) (a .ask-each2 .ensures) (e .if5 .left)
 
-is-between-requires : tie.Need-is-between-requires
-is-between-requires c κs = search needs
-
 returns : tie.Need-returns
 returns c =
     let z = c .before .before .before .args in
     sym (ap (λ (f : Fault). f .number) (bad-buyers (z .buyers) (z .lots) (z .worths .now) (z .room)
     (sym (c .before .is-between .ensures) ∙ not-true _ (c .if1 .taken))))
-
-is-between-requires-2 : tie.Need-is-between-requires-2
-is-between-requires-2 c κs = search needs
 
 returns-2 : tie.Need-returns-2
 returns-2 c =
@@ -136,9 +130,6 @@ returns-3 c =
 table-of-requires : tie.Need-table-of-requires
 table-of-requires c κs = (few (second c), low (second c), count-right c)
 
-slice-aggregate-ask-each : tie.Need-slice-aggregate-ask-each
-slice-aggregate-ask-each c = search needs
-
 ask-each-requires : tie.Need-ask-each-requires
 ask-each-requires c κs = let q = second (c .before .before .before) in (few q, low q)
 
@@ -151,9 +142,6 @@ returns-4 c =
     sym (ap (λ (f : Fault). f .number) (too-large (m p) (n p) (vs p) (room p) (few-buyers p) (few-lots q)
     (count-right (t .before)) (t .table-of .result) (t .table-of .ensures) (a .ask-each .result) (a .ask-each .ensures)
     (c .if4 .taken)))
-
-slice-aggregate-ask-each-2 : tie.Need-slice-aggregate-ask-each-2
-slice-aggregate-ask-each-2 c = search needs
 
 ask-each-requires-2 : tie.Need-ask-each-requires-2
 ask-each-requires-2 c κs = let q = second (third (c .before .before)) in (few q, low q)
@@ -197,24 +185,6 @@ returns-7 c =
 pub ask-list-spec : {M : Type 1} → statement M
 ask-list-spec =
     tie.close
-    (tie.spec
-    is-between-requires
-    returns
-    is-between-requires-2
-    returns-2
-    bundles-requires
-    sub-if3
-    mul-if3
-    returns-3
-    table-of-requires
-    slice-aggregate-ask-each
-    ask-each-requires
-    returns-4
-    slice-aggregate-ask-each-2
-    ask-each-requires-2
-    returns-5
-    line-length-requires
-    mul-if6
-    add-if6
-    returns-6
-    returns-7)
+    (tie.spec (λ c κs. search needs) returns (λ c κs. search needs) returns-2 bundles-requires sub-if3 mul-if3 returns-3
+    table-of-requires (λ c. search needs) ask-each-requires returns-4 (λ c. search needs) ask-each-requires-2 returns-5
+    line-length-requires mul-if6 add-if6 returns-6 returns-7)

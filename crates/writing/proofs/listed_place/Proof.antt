@@ -13,17 +13,11 @@ use Rattle.writing.specs.Lists.{listed}
 use Rattle.writing.proofs.listed_place.Statement.{statement}
 use Rattle.writing.proofs.listed_place.Tie as tie
 
-has-worth-requires : tie.Need-has-worth-requires
-has-worth-requires c κs = search needs
-
 returns : tie.Need-returns
 returns c =
     let z = c .before .before .before .args in
     place-absent (z .m) (z .n) (listed (z .n) (z .worths .now)) (z .k) (λ _. refl)
     (sym (c .before .has-worth .ensures) ∙ not-true _ (c .if1 .taken))
-
-bundles-requires : tie.Need-bundles-requires
-bundles-requires c κs = search needs
 
 -- a place that the list has
 module _ (p : tie.After-bundles) where
@@ -82,14 +76,5 @@ returns-2 c =
 pub listed-place-spec : {M : Type 1} → statement M
 listed-place-spec =
     tie.close
-    (tie.spec
-    has-worth-requires
-    returns
-    bundles-requires
-    sub-at
-    mul-at
-    sub-at-2
-    add-at
-    mul-result
-    shared-slice-read-result
-    returns-2)
+    (tie.spec (λ c κs. search needs) returns (λ c κs. search needs) sub-at mul-at sub-at-2 add-at mul-result
+    shared-slice-read-result returns-2)

@@ -106,14 +106,8 @@ sub-put-line c = omega (arith, long (c .before), room c)
 part-put-line-start : tie.Need-part-put-line-start Inv-loop μ-loop
 part-put-line-start c = omega (arith, long (c .before), room c)
 
-part-put-line-end : tie.Need-part-put-line-end Inv-loop μ-loop
-part-put-line-end c = omega arith
-
 mul-put-line : tie.Need-mul-put-line Inv-loop μ-loop
 mul-put-line c = omega (arith, inside (c .before))
-
-sub-put-line-2 : tie.Need-sub-put-line-2 Inv-loop μ-loop
-sub-put-line-2 c = omega arith
 
 part-put-line-start-2 : tie.Need-part-put-line-start-2 Inv-loop μ-loop
 part-put-line-start-2 c = omega (arith, inside (c .before))
@@ -130,12 +124,6 @@ put-line-requires c κs =
           (omega (arith, long a, room t)),
       row-small (m a) (n a) (vs a) (fills a) (size a) (wide a) (size-is a) (wide-is a) (i a) more,
     )
-
-add-i : tie.Need-add-i Inv-loop μ-loop
-add-i c = omega arith
-
-loop-less : tie.Need-loop-less Inv-loop μ-loop
-loop-less c = omega arith
 
 loop-again : tie.Need-loop-again Inv-loop μ-loop
 loop-again c =
@@ -162,26 +150,6 @@ returns c =
 pub put-rows-spec : {M : Type 1} → statement M
 put-rows-spec =
     tie.close
-    (tie.spec
-    Inv-loop
-    μ-loop
-    bundles-requires
-    sub-size
-    line-length-requires
-    loop-holds
-    mul-at
-    mul-from
-    add-to
-    sub-put-line
-    part-put-line-start
-    part-put-line-end
-    mul-put-line
-    sub-put-line-2
-    part-put-line-start-2
-    part-put-line-end-2
-    put-line-requires
-    add-i
-    loop-less
-    loop-again
-    same-length
-    returns)
+    (tie.spec Inv-loop μ-loop bundles-requires sub-size line-length-requires loop-holds mul-at mul-from add-to
+    sub-put-line part-put-line-start (λ c. omega arith) mul-put-line (λ c. omega arith) part-put-line-start-2
+    part-put-line-end-2 put-line-requires (λ c. omega arith) (λ c. omega arith) loop-again same-length returns)

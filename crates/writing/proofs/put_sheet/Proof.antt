@@ -36,15 +36,6 @@ module _ (p : tie.After-put-line) where
   long : length (p .put-line .last .0) ≡ length o
   long = first-long m n vs o (p .put-line .last .0) [] (start .pre .1) (p .put-line .ensures)
 
-cast-t6 : tie.Need-cast-t6
-cast-t6 c = search needs
-
-cast-t7 : tie.Need-cast-t7
-cast-t7 c = search needs
-
-slice-aggregate-put-line : tie.Need-slice-aggregate-put-line
-slice-aggregate-put-line c = search needs
-
 put-line-requires : tie.Need-put-line-requires
 put-line-requires c κs =
     let s = c .before .before .before .before in (
@@ -57,9 +48,6 @@ sub-put-rows c = let p = c .before .before in omega (arith, long p, start p .pre
 
 part-put-rows-start : tie.Need-part-put-rows-start
 part-put-rows-start c = let p = c .before .before in omega (arith, long p, start p .pre .1)
-
-part-put-rows-end : tie.Need-part-put-rows-end
-part-put-rows-end c = omega arith
 
 put-rows-requires : tie.Need-put-rows-requires
 put-rows-requires c κs =
@@ -92,14 +80,5 @@ returns c = whole (c .before .before)
 pub put-sheet-spec : {M : Type 1} → statement M
 put-sheet-spec =
     tie.close
-    (tie.spec
-    cast-t6
-    cast-t7
-    slice-aggregate-put-line
-    put-line-requires
-    sub-put-rows
-    part-put-rows-start
-    part-put-rows-end
-    put-rows-requires
-    same-length
-    returns)
+    (tie.spec (λ c. search needs) (λ c. search needs) (λ c. search needs) put-line-requires sub-put-rows
+    part-put-rows-start (λ c. omega arith) put-rows-requires same-length returns)

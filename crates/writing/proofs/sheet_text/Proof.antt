@@ -40,21 +40,6 @@ module _ (p : tie.After-write-sheet) where
       ap (take (count .typed-count .result)) (read .typed-worths .ensures)
       ∙ first-list b (count .typed-count .result) (count .typed-count .ensures .is)
 
-typed-at-requires : tie.Need-typed-at-requires
-typed-at-requires c κs = search needs
-
-typed-at-requires-2 : tie.Need-typed-at-requires-2
-typed-at-requires-2 c κs = search needs
-
-typed-worths-requires : tie.Need-typed-worths-requires
-typed-worths-requires c κs = search needs
-
-typed-count-requires : tie.Need-typed-count-requires
-typed-count-requires c κs = search needs
-
-array-share-prefix-worths : tie.Need-array-share-prefix-worths
-array-share-prefix-worths c = search needs
-
 slice-aggregate-write-sheet : tie.Need-slice-aggregate-write-sheet
 slice-aggregate-write-sheet c =
     let count = c .before in
@@ -64,29 +49,11 @@ slice-aggregate-write-sheet c =
     sym (length-take-le (count .typed-count .result) (read .typed-worths .result)
     (omega (arith, long, count .typed-count .ensures .most)))
 
-slice-aggregate-write-sheet-2 : tie.Need-slice-aggregate-write-sheet-2
-slice-aggregate-write-sheet-2 c = search needs
-
-write-sheet-requires : tie.Need-write-sheet-requires
-write-sheet-requires c κs = search needs
-
-cast-length : tie.Need-cast-length
-cast-length c = search needs
-
 returns : tie.Need-returns
 returns c =
     let p = c .before .before .before .before in
     text-written (b p) _ _ _ _ (p .write-sheet .result) (first-is p) (second-is p) (list-is p) (p .write-sheet .ensures)
     (c .before .if1 .taken)
-
-cast-t18 : tie.Need-cast-t18
-cast-t18 c = search needs
-
-slice-aggregate-put-line : tie.Need-slice-aggregate-put-line
-slice-aggregate-put-line c = search needs
-
-slice-aggregate-put-line-2 : tie.Need-slice-aggregate-put-line-2
-slice-aggregate-put-line-2 c = search needs
 
 put-line-requires : tie.Need-put-line-requires
 put-line-requires c κs =
@@ -111,19 +78,6 @@ returns-2 c =
 pub sheet-text-spec : {M : Type 1} → statement M
 sheet-text-spec =
     tie.close
-    (tie.spec
-    typed-at-requires
-    typed-at-requires-2
-    typed-worths-requires
-    typed-count-requires
-    array-share-prefix-worths
-    slice-aggregate-write-sheet
-    slice-aggregate-write-sheet-2
-    write-sheet-requires
-    cast-length
-    returns
-    cast-t18
-    slice-aggregate-put-line
-    slice-aggregate-put-line-2
-    put-line-requires
-    returns-2)
+    (tie.spec (λ c κs. search needs) (λ c κs. search needs) (λ c κs. search needs) (λ c κs. search needs)
+    (λ c. search needs) slice-aggregate-write-sheet (λ c. search needs) (λ c κs. search needs) (λ c. search needs)
+    returns (λ c. search needs) (λ c. search needs) (λ c. search needs) put-line-requires returns-2)

@@ -7,15 +7,6 @@ use Rattle.writing.specs.Answers.{orTooLarge}
 use Rattle.writing.proofs.typed_at.Statement.{statement}
 use Rattle.writing.proofs.typed_at.Tie as tie
 
-mul-read-field : tie.Need-mul-read-field
-mul-read-field c = search needs
-
-read-field-requires : tie.Need-read-field-requires
-read-field-requires c κs = search needs
-
-enum-known-field : tie.Need-enum-known-field
-enum-known-field c = search needs
-
 enum-told : tie.Need-enum-told
 enum-told c = search needs
 
@@ -33,4 +24,4 @@ returns-2 c =
 
 pub typed-at-spec : {M : Type 1} → statement M
 typed-at-spec =
-    tie.close (tie.spec mul-read-field read-field-requires enum-known-field enum-told returns returns-2)
+    tie.close (tie.spec (λ c. search needs) (λ c κs. search needs) (λ c. search needs) enum-told returns returns-2)

@@ -17,23 +17,8 @@ abbrev μ-loop : tie.MeasureT-loop
 loop-holds : tie.Need-loop-holds Inv-loop μ-loop
 loop-holds c = (omega arith, filled-none _ 91 _ refl)
 
-add-typed-at : tie.Need-add-typed-at Inv-loop μ-loop
-add-typed-at c = omega arith
-
-typed-at-requires : tie.Need-typed-at-requires Inv-loop μ-loop
-typed-at-requires c κs = omega arith
-
-mul-t : tie.Need-mul-t Inv-loop μ-loop
-mul-t c = omega arith
-
 array-write-t : tie.Need-array-write-t Inv-loop μ-loop
 array-write-t c = omega (arith, c .before .before .loop .inv .1 .long)
-
-add-k : tie.Need-add-k Inv-loop μ-loop
-add-k c = omega arith
-
-loop-less : tie.Need-loop-less Inv-loop μ-loop
-loop-less c = omega arith
 
 loop-again : tie.Need-loop-again Inv-loop μ-loop
 loop-again c =
@@ -51,15 +36,5 @@ returns c =
 pub typed-worths-spec : {M : Type 1} → statement M
 typed-worths-spec =
     tie.close
-    (tie.spec
-    Inv-loop
-    μ-loop
-    loop-holds
-    add-typed-at
-    typed-at-requires
-    mul-t
-    array-write-t
-    add-k
-    loop-less
-    loop-again
-    returns)
+    (tie.spec Inv-loop μ-loop loop-holds (λ c. omega arith) (λ c κs. omega arith) (λ c. omega arith) array-write-t
+    (λ c. omega arith) (λ c. omega arith) loop-again returns)

@@ -42,9 +42,6 @@ small l =
     let p = l .before .before .before .before .before in
     product-small (m p) (l .line-length .result) 6 91 (yes-to p 0 .1) (l .line-length .ensures .most)
 
-ask-list-requires : tie.Need-ask-list-requires
-ask-list-requires c κs = search needs
-
 returns : tie.Need-returns
 returns c =
     let z = c .before .before .before .before .args in
@@ -92,13 +89,5 @@ returns-2 c =
 pub write-sheet-spec : {M : Type 1} → statement M
 write-sheet-spec =
     tie.close
-    (tie.spec
-    ask-list-requires
-    returns
-    put-sheet-requires
-    line-length-requires
-    mul-length
-    add-length
-    cast-t15
-    same-length
-    returns-2)
+    (tie.spec (λ c κs. search needs) returns put-sheet-requires line-length-requires mul-length add-length cast-t15
+    same-length returns-2)
