@@ -1,12 +1,16 @@
 -- The economies of an offer by their numbers (`Numbers`, `economy-number`, `number-economy`, `at-number`); each has some
--- of all allocations (`economy-fewer`), and its revenue is reached and not passed (`revenue-greatest`).
+-- of all allocations (`economy-fewer`), a buyer is present in every one but its own (`present-other`), and a revenue is reached and not
+-- passed (`revenue-greatest`).
 use mathlib.Core.Path.{_≡_, refl}
+use mathlib.Core.Logic.{_≢_, _↔_}
+use mathlib.Core.Bool.{true}
 use mathlib.Core.List.{List}
 use Prim.Native.Nat.{ℕ, zero, suc, _≤_}
 use native.Mathlib.Omega.{arith}
 use Rattle.theory.specs.Lists.{_∈_}
 use Rattle.theory.specs.Markets.{total}
 use Rattle.theory.specs.Auction.{Economy, whole, lacking}
+use Rattle.theory.proofs.Tests.{not-means, eqb-means}
 use Rattle.theory.proofs.Lists.{most-upper, most-reached, keep-from}
 use Rattle.owners.specs.Owners.{lacks}
 use Rattle.owners.specs.Quick.{presentIn}
@@ -17,6 +21,11 @@ use Rattle.offers.specs.Claims.{economyAt, Regular}
 -- an economy has the number e: its lists, and who is present
 abbrev pub Numbers : Offer → Economy (List ℕ) → ℕ → Type 0
 Numbers O y e = (y .lists ≡ economy O e) × ((i : ℕ) → Bids O i → y .present i ≡ presentIn e i)
+
+-- a buyer is present in every economy but its own
+pub present-other : (e i : ℕ) → 1 ≤ i → (presentIn e i ≡ true) ↔ (i ≢ e)
+present-other zero i h = (λ _ z. omega arith, λ _. refl)
+present-other (suc e) i h = not-means (eqb-means i (suc e))
 
 module _ (O : Offer) where
   pub but-one : (i : ℕ) → 1 ≤ i → without O i ≡ economy O i

@@ -16,16 +16,17 @@ use Rattle.theory.specs.Lists.{over}
 use Rattle.theory.proofs.Tests.{by-test}
 use Rattle.printing.proofs.Lines.{front-within}
 use Rattle.fields.proofs.Lines.{line-length}
-use Rattle.sheet.specs.Sheets.{Sheet, sheetOf}
 use Rattle.sheet.specs.Questions.{accepts, onward, sheetFault}
 use Rattle.sheet.specs.declared.Fault.{Fault}
 use Rattle.sheet.proofs.Faults.{all-yes}
 use Rattle.sheet.proofs.Long.{long-refused, long-alike}
 use Rattle.sale.specs.declared.Sale.{Sale}
-use Rattle.sale.specs.Rounds.{roundLimit}
+use Rattle.offers.specs.Offers.{Offer, offerOf}
+use Rattle.offers.specs.Rounds.{roundLimit}
 use Rattle.sale.specs.Answers.{settledSale, refusedSale, saleAnswer, saleRecord, SaleSays}
-use Rattle.sale.proofs.Instance.{shape}
+use Rattle.offers.proofs.Lots.{shape}
 use Rattle.sale.proofs.Opening.{sale-number}
+use Rattle.demands.specs.Claims.{unplaced}
 use Rattle.demands.proofs.First.{demand-1}
 use Rattle.printed.specs.declared.Text.{Text}
 use Rattle.printed.specs.Printed.{printed, settledText, refusedText, printedSale, Puts, PrintSays, PrintsSale}
@@ -33,9 +34,9 @@ use Rattle.printed.specs.Printed.{textOf, Prints}
 use Rattle.printed.proofs.Fits.{limit-low, sale-asked, sale-first, prints-fit, never-nine}
 use Rattle.printed.proofs.Parts.{text-length}
 
-printed-settled : (w : Sheet) → printed (settledSale w) ≡ settledText (settledSale w)
+printed-settled : (O : Offer) → printed (settledSale O) ≡ settledText (settledSale O)
 unfolding settledSale
-printed-settled w = refl
+printed-settled O = refl
 
 printed-refused : (f : Fault) → f .number ≢ 0 → printed (refusedSale f) ≡ refusedText (f .number) (f .place)
 unfolding refusedSale
@@ -48,7 +49,7 @@ shortest r =
     (λ e. rw e (omega (arith, line-length (r .number ∷ r .place ∷ []))))
 
 module _ (b : List ℕ) where
-  settled : sheetFault b .number ≡ 0 → printedSale b ≡ settledText (settledSale (sheetOf b))
+  settled : sheetFault b .number ≡ 0 → printedSale b ≡ settledText (settledSale (offerOf b))
   unfolding printedSale
   settled z = rw (eq-eqb (sheetFault b .number) 0 z) refl
 
@@ -60,11 +61,11 @@ module _ (b : List ℕ) where
   unfolding saleAnswer
   any-record room long =
       let f = sheetFault b in
-      let s = settledSale (sheetOf b) in
+      let s = settledSale (offerOf b) in
       elim (ℕ-discrete (f .number) 0) [
         | yes z ↦
             ap (λ g. printed (onward (accepts g) (λ _. s) (refusedSale g))) (sale-asked b room long z)
-            ∙ printed-settled (sheetOf b) ∙ sym (settled z)
+            ∙ printed-settled (offerOf b) ∙ sym (settled z)
         | no n ↦
             ap (λ g. printed (onward (accepts g) (λ _. s) (refusedSale g))) (sale-first b room long n)
             ∙ ap (λ x. printed (onward x (λ _. s) (refusedSale f))) (ne-eqb (f .number) 0 n) ∙ printed-refused f n
@@ -76,7 +77,7 @@ module _ (b : List ℕ) where
   longest =
       elim (ℕ-discrete (sheetFault b .number) 0) [
         | yes z ↦
-            let long = text-length (settledSale (sheetOf b)) in
+            let long = text-length (settledSale (offerOf b)) in
             omega (arith, ap length (settled z), long, shape b z .few-buyers, shape b z .few-lots)
         | no n ↦ omega (arith, ap length (refused n), line-length (sheetFault b .number ∷ sheetFault b .place ∷ []))
       ]
@@ -117,7 +118,7 @@ refused-print b o o′ r says n = (
 )
 
 print-numbered : (b o o′ t t′ : List ℕ) (k : ℕ) → PrintSays b o o′ t t′ k →
-    (text : List ℕ) × PrintsSale b o o′ (roundLimit (sheetOf b) ≤ length o) text × Puts text t t′ k
+    (text : List ℕ) × PrintsSale b o o′ (unplaced 9 (roundLimit (offerOf b) ≤ length o) ∷ []) text × Puts text t t′ k
 print-numbered b o o′ t t′ k says =
     let r = saleAnswer b (length o) in
     let sale : SaleSays b o o′ r = record { answer = refl; bytes = says .bytes } in (
@@ -133,7 +134,7 @@ print-numbered b o o′ t t′ k says =
     )
 
 -- with 59,994 bytes of record no sale is refused by question 9
-text-numbered : (b o : List ℕ) → 59994 ≤ length o → (o′ : List ℕ) × PrintsSale b o o′ (Unit {0}) (printedSale b)
+text-numbered : (b o : List ℕ) → 59994 ≤ length o → (o′ : List ℕ) × PrintsSale b o o′ [] (printedSale b)
 text-numbered b o long =
     let r = saleAnswer b (length o) in
     let o′ = saleRecord b o in
@@ -147,12 +148,13 @@ text-numbered b o long =
         numbered = record {
           accepts = (
             λ z. (told .accepts .0 z .0, tt),
-            λ (yes-to, _). told .accepts .1 (yes-to, omega (arith, long, limit-low b (all-yes b .1 yes-to))),
+            λ (yes-to, _). told .accepts .1 (yes-to, (omega (arith, long, limit-low b (all-yes b .1 yes-to)), tt)),
           );
           first-no = told .first-no;
           range = elim (told .range) [
             | inl h ↦ inl h
-            | inr h ↦ absurd (never-nine b (length o) long (sym (sale-number b o o′ r sale) ∙ h .0))
+            | inr (yes-to, inl (_, nine, _)) ↦ absurd (never-nine b (length o) long (sym (sale-number b o o′ r sale) ∙ nine))
+            | inr (yes-to, inr (_, none)) ↦ absurd none
           ];
           no-place = told .no-place;
           a-place = told .a-place;

@@ -12,11 +12,11 @@ use Rattle.fields.specs.Fields.{lineOf, linesOf}
 use Rattle.owners.specs.Owners.{bundleFrom, single}
 use Rattle.owners.specs.Prices.{plain, price}
 use Rattle.sale.specs.declared.Sale.{Sale}
-use Rattle.sheet.specs.Sheets.{sheetOf}
 use Rattle.sheet.specs.Questions.{accepts, onward, sheetFault}
-use Rattle.sale.specs.Rounds.{roundLimit}
+use Rattle.offers.specs.Offers.{offerOf}
+use Rattle.offers.specs.Rounds.{roundLimit}
 use Rattle.sale.specs.Answers.{saleFault, settledSale, saleAnswer, saleRecord, SaleSays}
-use Rattle.demands.specs.Claims.{Numbered}
+use Rattle.demands.specs.Claims.{Own, unplaced, Numbered}
 use Rattle.printed.specs.declared.Text.{Text}
 
 -- rule 6.3: the line of a lot; lots are counted from 0 here
@@ -49,7 +49,7 @@ printed r = pick (eqb (r .number) 0) (settledText r) (refusedText (r .number) (r
 unfoldable pub printedSale : List ℕ → List ℕ
 printedSale b =
     let f = sheetFault b in
-    onward (accepts f) (λ _. settledText (settledSale (sheetOf b))) (refusedText (f .number) (f .place))
+    onward (accepts f) (λ _. settledText (settledSale (offerOf b))) (refusedText (f .number) (f .place))
 
 -- a text put at the front of a buffer o: its length is answered; or 0, where it has no room, and the buffer keeps its
 -- bytes
@@ -58,7 +58,7 @@ pub record Puts (text o o′ : List ℕ) (r : ℕ) : Type 0 where
   pub none : length o < length text → (r ≡ 0) × (o′ ≡ o)
 
 -- an answer whose numbers all fit six columns, of at most six buyers and four lots; prices of the buyers and bundles
--- there are
+-- there are, in a table that has a row for each buyer
 pub record Printable (r : Sale) : Type 0 where
   pub number : r .number < 1000000
   pub place : r .place < 1000000
@@ -66,6 +66,7 @@ pub record Printable (r : Sale) : Type 0 where
   pub lots : r .lots ≤ 4
   pub rounds : r .rounds < 1000000
   pub owners : (j : ℕ) → getD (r .owners) j 0 < 1000000
+  pub table : 96 ≤ length (r .prices)
   pub prices : (i s : ℕ) → Among (r .buyers) 1 i → s < 2 ^ r .lots → price (plain 6) (r .prices) i s < 1000000
   pub discounts : (k : ℕ) → getD (r .discounts) k 0 < 1000000
   pub payments : (k : ℕ) → getD (r .payments) k 0 < 1000000
@@ -82,18 +83,18 @@ textOf b = record { bytes = over (printedSale b) (replicate 227 0); length = len
 -- demand 1 of the entries that print: they print a sale's answer, with a sale's number and place; a refusal is one
 -- line, and leaves the record as it was. A record of 59,994 bytes, as `sale_text` has, is never too short: there is no
 -- question 9 then.
-pub record PrintsSale (b o o′ : List ℕ) (Own : Type 0) (text : List ℕ) : Type 0 where
+pub record PrintsSale (b o o′ : List ℕ) (own : List Own) (text : List ℕ) : Type 0 where
   pub answer : Sale
   pub says : SaleSays b o o′ answer
-  pub numbered : Numbered b 9 Own (answer .number) (answer .place)
+  pub numbered : Numbered b own (answer .number) (answer .place)
   pub text-is : text ≡ printed answer
   pub refused : answer .number ≢ 0 → (text ≡ refusedText (answer .number) (answer .place)) × (o′ ≡ o)
 
 -- what is claimed of printing, whatever the bytes
 pub record Prints : Type 0 where
   pub prints : (b o o′ t t′ : List ℕ) (r : ℕ) → PrintSays b o o′ t t′ r →
-      (text : List ℕ) × PrintsSale b o o′ (roundLimit (sheetOf b) ≤ length o) text × Puts text t t′ r
-  pub texts : (b o : List ℕ) → 59994 ≤ length o → (o′ : List ℕ) × PrintsSale b o o′ (Unit {0}) (printedSale b)
+      (text : List ℕ) × PrintsSale b o o′ (unplaced 9 (roundLimit (offerOf b) ≤ length o) ∷ []) text × Puts text t t′ r
+  pub texts : (b o : List ℕ) → 59994 ≤ length o → (o′ : List ℕ) × PrintsSale b o o′ [] (printedSale b)
   -- every printed number has at most six digits
   pub prints-fit : (b o o′ : List ℕ) (r : Sale) → SaleSays b o o′ r → Printable r
   -- question 9's sum is at most 59,994, so that a record of that length is never refused

@@ -52,8 +52,8 @@ fn put_buyers(out: &mut [u8], r: Sale)
     let mut i: usize = 0;
     while i < m {
         let at = 25 * i;
-        let s = totals::bundle_of(owners, n, i + 1);
-        let p = demand::price_of(&prices, i + 1, s);
+        let s = lists::bundle_of(owners, n, i + 1);
+        let p = tables::entry(&prices, i + 1, s);
         let buyer = (i + 1) as u32;
         let d = r.discounts[i];
         let due = r.payments[i];

@@ -1,10 +1,9 @@
--- The starred sales are as section 7 of the rules has them: all rows of one table (`starred`), by computing. Assumes
--- nothing.
+-- The starred sales are as section 7 of the rules has them: all rows of one table (`starred`), by computing.
 use mathlib.Core.Path.{refl}
-use Rattle.owners.specs.Singles as singles
 use Rattle.sheet.specs.Sheets.{worthsIn}
 use Rattle.sheet.specs.Questions.{sheetFault, linesFault, firstWrong}
 use Rattle.sheet.specs.Answers.{worthsBy, worthsRead, sheetRead}
+use Rattle.offers.specs.Rounds.{startPrices, setsFrom, pricesFrom}
 use Rattle.offers.specs.Rounds.{raised, saleSets, lastPrices, ownersBy, discountFor, paymentFor, directOwners}
 use Rattle.offers.specs.Rounds.{directPayment}
 use Rattle.offers.specs.Places.{perBuyer}
@@ -14,7 +13,8 @@ use Rattle.starred.specs.Starred.{Starred}
 
 pub starred : Starred
 unfolding
-    worthsIn sheetFault linesFault firstWrong perBuyer singles.startPrices singles.saleSets singles.salePrices raised saleSets lastPrices ownersBy discountFor paymentFor
+    worthsIn sheetFault linesFault firstWrong perBuyer startPrices setsFrom pricesFrom raised saleSets
+    lastPrices ownersBy discountFor paymentFor
     worthsBy worthsRead sheetRead refusedSale settledSale saleAnswer saleRecord directOwners directPayment refusedDirect
     reckoned directAnswer
 starred = refl

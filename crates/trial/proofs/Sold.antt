@@ -22,7 +22,8 @@ use Rattle.sheet.proofs.Forms.{asked-yes}
 use Rattle.sheet.proofs.Theorems.{accepted-shape}
 use Rattle.owners.proofs.Singles.{limit-small}
 use Rattle.sale.specs.declared.Sale.{Sale}
-use Rattle.sale.specs.Rounds.{roundLimit}
+use Rattle.offers.specs.Offers.{offerOf}
+use Rattle.offers.specs.Rounds.{roundLimit}
 use Rattle.sale.specs.Answers.{SaleSays}
 use Rattle.sale.proofs.Opening.{sale-number}
 use Rattle.writing.specs.declared.Wrote.{Wrote}
@@ -79,14 +80,14 @@ module _ (N m n top : ℕ) (o o′ : List ℕ) (r : Wrote) (says : TrialSays N m
       ap (λ l. sheetFault l .number) front
       ∙ bytes-accepted m n vs (length o) (write-all-yes m n vs (length o) .0 none) .0
 
-  pub trial-sold : (l l′ : List ℕ) (s : Sale) → SaleSays b l l′ s → roundLimit (sheetOf b) ≤ length l → s .number ≡ 0
+  pub trial-sold : (l l′ : List ℕ) (s : Sale) → SaleSays b l l′ s → roundLimit (offerOf b) ≤ length l → s .number ≡ 0
   trial-sold l l′ s sale long =
       sale-number b l l′ s sale
       ∙ ap (λ (f : Fault). f .number)
-      (asked-yes 9 (leb (roundLimit (sheetOf b)) (length l)) (sheetFault b) accepted
-      (le-leb (roundLimit (sheetOf b)) (length l) long))
+      (asked-yes 9 (leb (roundLimit (offerOf b)) (length l)) (sheetFault b) accepted
+      (le-leb (roundLimit (offerOf b)) (length l) long))
 
-  pub trial-record : roundLimit (sheetOf b) ≤ 59994
+  pub trial-record : roundLimit (offerOf b) ≤ 59994
   trial-record =
       let shape = accepted-shape b accepted in
       limit-small (sheetOf b .buyers) (sheetOf b .lots) (shape .few-buyers) (sheetOf b .worths) (shape .small)

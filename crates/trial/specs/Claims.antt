@@ -11,7 +11,8 @@ use Rattle.sheet.specs.Sheets.{sheetOf}
 use Rattle.sheet.specs.Tables.{cells}
 use Rattle.sheet.specs.Answers.{worthsRead}
 use Rattle.sale.specs.declared.Sale.{Sale}
-use Rattle.sale.specs.Rounds.{roundLimit}
+use Rattle.offers.specs.Offers.{offerOf}
+use Rattle.offers.specs.Rounds.{roundLimit}
 use Rattle.sale.specs.Answers.{SaleSays}
 use Rattle.writing.specs.declared.Wrote.{Wrote}
 use Rattle.trial.specs.Worths.{raisedBy, mostFewer, drawFor, trialTable}
@@ -63,9 +64,9 @@ pub record Trials : Type 0 where
   -- and sold with a record of question 9's sum, which is at most 59,994, whatever bytes it holds
   pub trial-sold : (N m n top : ℕ) (o o′ : List ℕ) (r : Wrote) → TrialSays N m n top o o′ r → r .number ≡ 0 →
       let b = take (r .length) o′ in (l l′ : List ℕ) (s : Sale) → SaleSays b l l′ s →
-      roundLimit (sheetOf b) ≤ length l → s .number ≡ 0
+      roundLimit (offerOf b) ≤ length l → s .number ≡ 0
   pub trial-record : (N m n top : ℕ) (o o′ : List ℕ) (r : Wrote) → TrialSays N m n top o o′ r → r .number ≡ 0 →
-      roundLimit (sheetOf (take (r .length) o′)) ≤ 59994
+      roundLimit (offerOf (take (r .length) o′)) ≤ 59994
   -- numbers above 999,999 are refused as that is
   pub trial-capped : (m n top room : ℕ) →
       trialFault (min m 999999) (min n 999999) (min top 999999) room ≡ trialFault m n top room

@@ -4,11 +4,13 @@ use mathlib.Core.Path.{_≡_, refl, ap, _∙_}
 use Prim.Native.Nat.{_+_, _-_, _*_, _≤_}
 use native.Mathlib.Omega.{arith}
 use lib.ListN.{length, getD, length-take, length-drop}
+use borrow.Author.Needs.{needs}
 use Rattle.theory.specs.Lists.{tabulate, over}
 use Rattle.fields.specs.Fields.{linesOf}
 use Rattle.owners.specs.Prices.{plain, price}
 use Rattle.fields.proofs.Lines.{line-length}
 use Rattle.printing.proofs.Lines.{lines-long, lines-more}
+use Rattle.tables.proofs.Tables.{entry-plain, row-fits}
 use Rattle.printed.specs.Printed.{buyerLine}
 use Rattle.printing.proofs.Fours.{four-small}
 use Rattle.printed.proofs.put_buyers.Statement.{statement}
@@ -32,8 +34,14 @@ long a =
 loop-holds : tie.Need-loop-holds Inv-loop μ-loop
 loop-holds c = (omega arith, refl)
 
-price-of-requires : tie.Need-price-of-requires Inv-loop μ-loop
-price-of-requires c κs = omega (arith, c .before .bundle-of .ensures .most)
+entry-requires : tie.Need-entry-requires Inv-loop μ-loop
+entry-requires c κs =
+    let a = c .before .before .before in
+    let s = a .before .before .before .before in (
+      omega arith,
+      omega (arith, c .before .bundle-of .ensures .most),
+      row-fits 1 (a .loop .i + 1) _ (omega arith) (omega (arith, s .pre .0 .buyers)) (s .pre .0 .table),
+    )
 
 -- a buyer's line has room
 room : (a : tie.In-loop Inv-loop μ-loop) → 25 * a .before .loop .i + 25 ≤ length (a .before .loop .out)
@@ -56,7 +64,7 @@ put-line-requires c κs =
     let discount = s .pre .0 .discounts (a .loop .i) in
     let payment = s .pre .0 .payments (a .loop .i) in (
       simp (length-take, length-drop) (omega (arith, room (p .before .before .before))),
-      four-small 1000000 _ _ _ _ (omega (arith, s .pre .0 .buyers)) (omega (arith, p .price-of .ensures .most))
+      four-small 1000000 _ _ _ _ (omega (arith, s .pre .0 .buyers)) (omega (arith, p .entry .ensures .most))
           (omega (arith, discount)) (omega (arith, payment)),
     )
 
@@ -70,7 +78,9 @@ loop-again c =
     let r = s .args .t2 in
     let f = buyerLine r in
     let i = a .loop .i in
-    let cost = p .price-of .ensures .is ∙ ap (price (plain 6) (r .prices) (i + 1)) (b .bundle-of .ensures .is) in (
+    let cost =
+    p .entry .ensures .is ∙ entry-plain (r .prices) (i + 1) (b .bundle-of .result) (omega arith)
+    ∙ ap (price (plain 6) (r .prices) (i + 1)) (b .bundle-of .ensures .is) in (
       omega arith,
       lines-more f 25 (λ k. line-length (f k)) (s .args .out .now) i (a .loop .out) (a .loop .inv .1)
           (omega (arith, s .pre .1)) _ refl _ _
@@ -92,6 +102,6 @@ pub put-buyers-spec : {M : Type 1} → statement M
 put-buyers-spec =
     tie.close
     (tie.spec Inv-loop μ-loop (λ c. omega arith) (λ c. omega arith) loop-holds (λ c. omega arith) (λ c. omega arith)
-    (λ c κs. omega arith) (λ c. omega arith) price-of-requires (λ c. omega arith) (λ c. omega arith) (λ c. omega arith)
+    (λ c κs. omega arith) (λ c. search needs) (λ c. omega arith) entry-requires (λ c. omega arith) (λ c. omega arith) (λ c. omega arith)
     (λ c. omega arith) (λ c. omega arith) (λ c. omega arith) sub-put-line part-put-line-start (λ c. omega arith)
     slice-aggregate-put-line put-line-requires (λ c. omega arith) (λ c. omega arith) loop-again same-length returns)
