@@ -57,12 +57,12 @@ pub record Demand-1 : Type 0 where
       r ≡ record { number = r .number; place = r .place; buyers = 0; lots = 0 }
   pub reads-worths-refused : (b : List ℕ) → let r = worthsRead b in r .number ≢ 0 → r ≡ refusal (r .number) (r .place)
   -- a demand answer
-  pub demands : (b : List ℕ) (i : ℕ) (ps : List ℕ) → let r = demandAnswer b i ps in 
+  pub demands : (b : List ℕ) (i : ℕ) (ps : List ℕ) → let r = demandAnswer b i ps in
       Numbered b (unplaced 10 (Among (sheetOf b .buyers) 1 i) ∷ []) (r .number) (r .place)
   pub demands-refused : (b : List ℕ) (i : ℕ) (ps : List ℕ) → let r = demandAnswer b i ps in r .number ≢ 0 →
       r ≡ refusedDemand (fault (r .number) (r .place))
   -- a sale: 0 means settled, and a refusal leaves the record as it was
-  pub sells : (b o o′ : List ℕ) (r : Sale) → SaleSays b o o′ r → 
+  pub sells : (b o o′ : List ℕ) (r : Sale) → SaleSays b o o′ r →
       Numbered b (unplaced 9 (roundLimit (offerOf b) ≤ length o) ∷ []) (r .number) (r .place)
   pub sells-settled : (b o o′ : List ℕ) (r : Sale) → SaleSays b o o′ r → r .number ≡ 0 → UCE (offerOf b) (r .prices)
   pub sells-refused : (b o o′ : List ℕ) (r : Sale) → SaleSays b o o′ r → r .number ≢ 0 →

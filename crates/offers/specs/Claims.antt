@@ -29,7 +29,7 @@ Prices ps = (k : ℕ) → getD ps k 0 ≤ 65535
 module _ (O : Offer) where
   -- two price tables that agree for the bidders there are and the bundles there are, but for the empty one
   abbrev pub Agree : List ℕ → List ℕ → Type 0
-  Agree ps qs = (i s : ℕ) → Bids O i → 1 ≤ s → s < O .bundles → 
+  Agree ps qs = (i s : ℕ) → Bids O i → 1 ≤ s → s < O .bundles →
       getD ps (16 * seats O .seat i + s) 0 ≡ getD qs (16 * seats O .seat i + s) 0
 
   -- everything that a sale looks at is then the same
@@ -44,8 +44,8 @@ module _ (O : Offer) where
   abbrev pub Demanded : List ℕ → ℕ → ℕ → Type 0
   Demanded ps i s = (t : ℕ) → t < O .bundles → worthOf O i t + priceAt O ps i s ≤ worthOf O i s + priceAt O ps i t
 
-  -- definition 1: a competitive equilibrium of the economy e (0: of all buyers): a list of its allocations, of greatest takings among them, in which every
-  -- buyer present, keen or not, holds a bundle of greatest payoff
+  -- definition 1: a competitive equilibrium of the economy e (0: of all bidders): a list of its allocations, of greatest
+  -- takings among them, in which every bidder present, keen or not, holds a bundle of greatest payoff
   pub record Supports (ps : List ℕ) (e : ℕ) (a : List ℕ) : Type 0 where
     pub among : a ∈ economy O e
     pub seller : (c : List ℕ) → c ∈ economy O e → total (market O) (priceAt O ps) c ≤ total (market O) (priceAt O ps) a
@@ -68,7 +68,7 @@ module _ (O : Offer) where
   abbrev pub membersAt : ℕ → ℕ → ℕ
   membersAt e set = sumOf (market O) (λ i. when (presentIn e i && member O set i) 1)
 
-  -- the allocations are all owner lists of the sheet's lots, in order; an economy has those that give its absent buyer nothing
+  -- the allocations are all owner lists of the lots, in order; an economy has those that give its absent buyer nothing
   pub record Allocated : Type 0 where
     pub allocations-all : (a : List ℕ) → (a ∈ O .lists) ↔ ((length a ≡ O .lots) × ((o : ℕ) → o ∈ a → o ≤ O .buyers))
     pub allocations-ordered : Ordered (ComesBefore _<_) (O .lists)
@@ -81,7 +81,7 @@ module _ (O : Offer) where
         (bit j (market O .holds a i) ≡ true) ↔ (getD a j 0 ≡ i)
     pub bundle-below : (a : List ℕ) → a ∈ O .lists → (i : ℕ) → market O .holds a i < O .bundles
 
-  -- at any ninety-six prices
+  -- at any prices
   pub record AtPrices (ps : List ℕ) : Type 0 where
     -- the demand set's bits are the bundles of greatest payoff, and it has no others; keen is who has a bundle of
     -- positive payoff
@@ -89,7 +89,8 @@ module _ (O : Offer) where
         (bit s (demandSet O ps i) ≡ true) ↔ Demanded ps i s
     pub demand-below : (i : ℕ) → demandSet O ps i < 2 ^ (O .bundles)
     pub demand-some : (i : ℕ) → Bids O i → (s : ℕ) × (s < O .bundles) × (bit s (demandSet O ps i) ≡ true)
-    pub keen-means : (i : ℕ) → Bids O i → (isKeen O ps i ≡ true) ↔ ((s : ℕ) × (s < O .bundles) × (priceAt O ps i s < worthOf O i s))
+    pub keen-means : (i : ℕ) → Bids O i →
+        (isKeen O ps i ≡ true) ↔ ((s : ℕ) × (s < O .bundles) × (priceAt O ps i s < worthOf O i s))
     -- a round raises the prices of the set's members for the bundles that they demand, and no others, by 1
     pub raised-price : (set i s : ℕ) → Bids O i → 1 ≤ s → s < O .bundles →
         priceAt O (raised O set ps) i s ≡ priceAt O ps i s + when (member O set i && bit s (demandSet O ps i)) 1
@@ -106,7 +107,7 @@ module _ (O : Offer) where
     pub supplied-means : (e set : ℕ) → (suppliedAt ps e set ≡ true) ↔
         ((a : List ℕ) × (a ∈ economy O e) × (fits O ps e a ≡ true)
         × ((i : ℕ) → Bids O i → presentIn e i ≡ true → member O set i ≡ true → Demanded ps i (market O .holds a i)))
-    -- if some set is undersupplied, then so is that of all keen buyers
+    -- if some set is undersupplied, then so is that of all keen bidders
     pub all-keen : (set all : ℕ) → undersupplied O ps set ≡ true →
         ((i : ℕ) → Bids O i → member O all i ≡ isKeen O ps i) → undersupplied O ps all ≡ true
     -- no set, the empty one included, is undersupplied exactly if the prices are a UCE
@@ -115,7 +116,8 @@ module _ (O : Offer) where
     -- 11 has it where there is universal overdemand)
     pub lowest-least : (set : ℕ) → lowest O ps ≡ suc set →
         (undersupplied O ps set ≡ true) × ((other : ℕ) → other < set → undersupplied O ps other ≡ false)
-    pub lowest-minimal : (set : ℕ) → lowest O ps ≡ suc set → Minimal (market O) (quote O ps) (theAuction O .economies) (member O set)
+    pub lowest-minimal : (set : ℕ) → lowest O ps ≡ suc set →
+        Minimal (market O) (quote O ps) (theAuction O .economies) (member O set)
     -- the revenue is reached and not passed; nothing is cut off in a discount
     pub revenue-greatest : (e : ℕ) →
         ((a : List ℕ) × (a ∈ economy O e) × (total (market O) (priceAt O ps) a ≡ revenue O ps e))
@@ -129,8 +131,10 @@ module _ (O : Offer) where
     -- the empty set is supplied, and each economy has an allocation that fits
     pub empty-supplied : undersupplied O (pricesAfter O k) 0 ≡ false
     pub fits-always : (e : ℕ) → e ≤ O .buyers → (a : List ℕ) × (a ∈ economy O e) × (fits O (pricesAfter O k) e a ≡ true)
-    -- each price is the worth less the payoff, cut off at 0, so at most the worth; those of absent buyers and bundles are 0
-    pub own-prices : (i s : ℕ) → Bids O i → s < O .bundles → priceAt O (pricesAfter O k) i s ≡ worthOf O i s - (best O (pricesAfter O k) i - 65535)
+    -- each price is the worth less the payoff, cut off at 0, so at most the worth; those of absent bidders and bundles
+    -- are 0
+    pub own-prices : (i s : ℕ) → Bids O i → s < O .bundles →
+        priceAt O (pricesAfter O k) i s ≡ worthOf O i s - (best O (pricesAfter O k) i - 65535)
     pub price-bound : (i s : ℕ) → Bids O i → s < O .bundles → priceAt O (pricesAfter O k) i s ≤ worthOf O i s
     pub absent-zero : (j : ℕ) → j < 16 * seats O .rows → read (seats O) (O .bundles) j ≡ false → getD (pricesAfter O k) j 0 ≡ 0
 
@@ -153,15 +157,18 @@ module _ (O : Offer) where
     pub last-uce : UCE (lastPrices O)
     pub none-earlier : (k : ℕ) → k < length (saleSets O) → UCE (pricesAfter O k) → ⊥
     -- universal overdemand (definition 10) in every round: some allocation fits (`fits-always`), and the set of all keen
-    -- buyers is undersupplied
+    -- bidders is undersupplied
     pub overdemand : (k : ℕ) → k < length (saleSets O) → (all : ℕ) →
         ((i : ℕ) → Bids O i → member O all i ≡ isKeen O (pricesAfter O k) i) →
         undersupplied O (pricesAfter O k) all ≡ true
-    -- each recorded set is the lowest undersupplied one at its prices, minimal by definition 11, one of the buyers there are, and has a member
+    -- each recorded set is the lowest undersupplied one at its prices, minimal by definition 11, one of the bidders there
+    -- are, and has a member
     pub lowest-set : (k : ℕ) → k < length (saleSets O) → lowest O (pricesAfter O k) ≡ suc (setAt k)
     pub least-set : (k : ℕ) → k < length (saleSets O) →
-        (undersupplied O (pricesAfter O k) (setAt k) ≡ true) × ((set : ℕ) → set < setAt k → undersupplied O (pricesAfter O k) set ≡ false)
-    pub minimal-set : (k : ℕ) → k < length (saleSets O) → Minimal (market O) (quote O (pricesAfter O k)) (theAuction O .economies) (member O (setAt k))
+        (undersupplied O (pricesAfter O k) (setAt k) ≡ true)
+        × ((set : ℕ) → set < setAt k → undersupplied O (pricesAfter O k) set ≡ false)
+    pub minimal-set : (k : ℕ) → k < length (saleSets O) →
+        Minimal (market O) (quote O (pricesAfter O k)) (theAuction O .economies) (member O (setAt k))
     pub set-below : (k : ℕ) → k < length (saleSets O) → setAt k < 2 ^ bits O
     pub not-empty : (k : ℕ) → k < length (saleSets O) → (i : ℕ) × Bids O i × (member O (setAt k) i ≡ true)
     -- from the zeros on, round by round, the recorded sets give the prices
@@ -172,8 +179,10 @@ module _ (O : Offer) where
     pub few-rounds : length (saleSets O) ≤ roundLimit O
     -- one raise a member a round: the raises and the last payoffs make up the worths of all lots; no payoff is cut off
     pub not-cut : (i : ℕ) → Bids O i → 65535 ≤ best O (lastPrices O) i
-    pub raises : sumOver (size (theAuction O)) (saleSets O) + sumOf (market O) (λ i. best O (lastPrices O) i - 65535) ≡ roundLimit O
-    -- the sale's own owners support the last prices: they fit, and serve every keen buyer
+    pub raises :
+        sumOver (size (theAuction O)) (saleSets O) + sumOf (market O) (λ i. best O (lastPrices O) i - 65535)
+        ≡ roundLimit O
+    -- the sale's own owners support the last prices: they fit, and serve every keen bidder
     pub sold-supports : Supports (lastPrices O) 0 (ownersBy O (lastPrices O))
     pub sold-fits : fits O (lastPrices O) 0 (ownersBy O (lastPrices O)) ≡ true
 

@@ -12,7 +12,8 @@ use Rattle.theory.specs.Markets.{sumOf, total, discount, pricePay}
 use Rattle.theory.specs.Auction.{closes}
 use Rattle.owners.specs.Prices.{zeros}
 use Rattle.owners.specs.Sales as sales
-use Rattle.offers.specs.Offers.{Offer, market, seats, worthOf, priceAt, without, economy, theAuction, quote, isKeen}
+use Rattle.offers.specs.Offers.{Offer, market, seats, worthOf, priceAt, without, economy, theAuction, quote}
+use Rattle.offers.specs.Offers.{isKeen}
 
 module _ (O : Offer) where
   -- rule 4.11: the prices after a round of the set

@@ -19,11 +19,13 @@ use Rattle.sale.specs.declared.Sale.{Sale}
 
 -- rule 3.9: questions 1 to 8, then 9; `room` is the length of the record
 abbrev pub saleFault : List ℕ → ℕ → Fault
-saleFault b room = let f = sheetFault b in onward (accepts f) (λ _. ask 9 (leb (roundLimit (offerOf b)) room) λ _. fault 0 0) f
+saleFault b room =
+    let f = sheetFault b in onward (accepts f) (λ _. ask 9 (leb (roundLimit (offerOf b)) room) λ _. fault 0 0) f
 
 -- rule 3.10: questions 1 to 8, then 10
 abbrev pub demandFault : List ℕ → ℕ → Fault
-demandFault b i = let f = sheetFault b in onward (accepts f) (λ _. ask 10 (between (sheetOf b .buyers) i) λ _. fault 0 0) f
+demandFault b i =
+    let f = sheetFault b in onward (accepts f) (λ _. ask 10 (between (sheetOf b .buyers) i) λ _. fault 0 0) f
 
 -- rule 3.14: number and place, and zeros
 unfoldable pub refusedDemand : Fault → Demand
@@ -47,7 +49,12 @@ refusedSale f =
 unfoldable pub demandAnswer : List ℕ → ℕ → List ℕ → Demand
 demandAnswer b i ps =
     let f = demandFault b i in
-    onward (accepts f) (λ _. record { number = 0; place = 0; bundles = demandSet (offerOf b) ps i; keen = isKeen (offerOf b) ps i }) (refusedDemand f)
+    onward (accepts f) (λ _. record {
+      number = 0;
+      place = 0;
+      bundles = demandSet (offerOf b) ps i;
+      keen = isKeen (offerOf b) ps i;
+    }) (refusedDemand f)
 
 -- rule 5.4: a settled sale's answer
 unfoldable pub settledSale : Offer → Sale

@@ -57,14 +57,7 @@ fn settled(buyers: u8, lots: u8, s: State, c: Closing) -> Sale
 }
 
 // The rounds of a sale and its closing, by the words of all allocations.
-fn sell(
-    list: &[u64],
-    worths: &[u16; 96],
-    buyers: u8,
-    lots: u8,
-    log: &mut [u8],
-    limit: u32,
-) -> Sale
+fn sell(list: &[u64], worths: &[u16; 96], buyers: u8, lots: u8, log: &mut [u8], limit: u32) -> Sale
     requires { ⌜ Opens buyers lots (now worths) limit (now log) × (now list ≡ lotWords buyers lots)
         × (limit ≡ roundLimit (lotsAmong buyers lots (now worths))) ⌝ }
     ensures { λ r. ⌜ (r ≡ settledSale (lotsAmong buyers lots (now (worths .entry))))
@@ -73,8 +66,8 @@ fn sell(
     let m = buyers as usize;
     let n = lots as usize;
     let s = rounds::run_rounds(list, worths, m, n, log, limit);
-    let prices = s.prices;
-    let c = closing::close_sale(list, worths, &prices, 1, m, power(n));
+    let last = s.prices;
+    let c = closing::close_sale(list, worths, &last, 1, m, power(n));
     settled(buyers, lots, s, c)
 }
 

@@ -171,7 +171,9 @@ fn payment_at(greatest: [u32; 7], table: &[u16], buyers: usize, word: u64, k: us
         return 0;
     }
     let own = entry(table, k + 1, digit_of(word, k + 1));
-    less(greatest[k + 1] + own, greatest[0])
+    let all = greatest[0];
+    let without = greatest[k + 1];
+    less(without + own, all)
 }
 
 // What each buyer pays: by prices in a sale, by worths in the direct way.

@@ -26,8 +26,8 @@ close-sale-requires c κs =
       omega (arith, c .power .ensures .is, pow-small (s .args .lots) (s .pre .0 .few-lots)),
       search needs,
       let sold = c .before .before .before .before .before .before .run-rounds .ensures in
-      let O = lotsAmong (s .args .buyers) (s .args .lots) (s .args .worths .now) in
-      omega (arith, ap length (sold .prices), last-long O (s .args .limit)),
+          let O = lotsAmong (s .args .buyers) (s .args .lots) (s .args .worths .now) in
+          omega (arith, ap length (sold .prices), last-long O (s .args .limit)),
     )
 
 returns : tie.Need-returns

@@ -19,12 +19,16 @@ returns c =
 
 entry-requires : tie.Need-entry-requires
 entry-requires c κs =
-    let s = c .before .before .before in
-    (omega arith, omega (arith, c .digit-of .ensures .most), row-fits 1 (s .args .k + 1) _ (omega arith) (omega arith) (s .pre .1))
+    let s = c .before .before .before in (
+      omega arith,
+      omega (arith, c .digit-of .ensures .most),
+      row-fits 1 (s .args .k + 1) _ (omega arith) (omega arith) (s .pre .1),
+    )
 
-add-less-2 : tie.Need-add-less-2
-add-less-2 c =
-    let s = c .before .before .before .before in omega (arith, c .entry .ensures .most, s .pre .2 (s .args .k + 1))
+add-less : tie.Need-add-less
+add-less c =
+    let s = c .before .before .before .before in
+    omega (arith, c .entry .ensures .most, s .pre .2 (s .args .k + 1), s .pre .2 0)
 
 returns-2 : tie.Need-returns-2
 returns-2 c =
@@ -40,4 +44,4 @@ pub payment-at-spec : {M : Type 1} → statement M
 payment-at-spec =
     tie.close
     (tie.spec returns (λ c. search needs) (λ c. search needs) (λ c κs. search needs) entry-requires (λ c. search needs)
-    (λ c. search needs) (λ c. search needs) add-less-2 (λ c. search needs) (λ c κs. search needs) returns-2)
+    (λ c. search needs) (λ c. search needs) (λ c. search needs) add-less (λ c κs. search needs) returns-2)
