@@ -1,6 +1,6 @@
 -- Six places, one to a buyer: with nobody (`place-absent`), with a buyer (`place-taken`), and all of them (`per-buyer-same`,
 -- `per-buyer-at`, `per-buyer-past`). Four for the owners: those there are (`four-short`), then zeros (`four-past`), which
--- change no buyer's bundle (`four-bundle`, `bundle-padded`).
+-- change no buyer's bundle (`four-bundle`).
 use mathlib.Core.Path.{_≡_, refl, sym, ap, _∙_}
 use mathlib.Core.List.{List}
 use Prim.Native.Nat.{ℕ, suc, _+_, _-_, _≤_, _<_}
@@ -58,8 +58,3 @@ module _ (a : List ℕ) where
   four-bundle share i some =
       sym (bundle-past share 0 i (length a) (four a) some four-past)
       ∙ ap (bundleFrom share 0 i) (four-short (length a) refl)
-
-  pub bundle-padded : (share : ℕ → ℕ) (i n : ℕ) → 1 ≤ i → length a ≤ n →
-      bundleFrom share 0 i (take n (four a)) ≡ bundleFrom share 0 i a
-  bundle-padded share i n some h =
-      bundle-past share 0 i n (four a) some (λ k l. four-past k (omega arith)) ∙ four-bundle share i some

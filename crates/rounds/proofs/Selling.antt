@@ -25,7 +25,8 @@ use Rattle.offers.specs.Offers.{lotsAmong}
 use Rattle.offers.specs.Rounds.{startPrices, setsFrom, pricesFrom}
 use Rattle.theory.specs.Lists.{over}
 use Rattle.owners.proofs.Quick.{quick-rounds, quick-last, quick-settled, roster-is, walk-values}
-use Rattle.owners.proofs.Singles.{worth-small, limit-small, sale-hall, sale-worths}
+use Rattle.owners.proofs.Singles.{worth-small, limit-small}
+use Rattle.offers.proofs.Lots.{lots-regular}
 use Rattle.lists.specs.Words.{lotWords}
 use Rattle.lists.proofs.Packed.{lots-packed}
 use Rattle.totals.specs.Totals.{wordTotalBy}
@@ -114,8 +115,10 @@ module _ (m n f : ℕ) (ws values o : List ℕ) (opens : Opens m n ws f o) (valu
   agrees : Agrees (roster m)
   unfolding Agrees
   agrees =
-      let hall = sale-hall m n (opens .few-buyers) (opens .few-lots) in
-      let worths = sale-worths m n (opens .few-buyers) (opens .few-lots) ws (opens .topped) in
+      let good =
+      lots-regular m n ws (opens .few-buyers) (opens .few-lots) (λ k. omega (arith, opens .small k)) (opens .topped) in
+      let hall = good .hall in
+      let worths = good .worths in
       let found : Values (sale m n) (worth ws) al (at values) =
       values-same (sale m n) (worth ws) al (at values) (valueOf m n (worth ws)) (λ k _. valued .is k) (walk-values m n (worth ws) (2 ^ n - 1)) in
       let wide : limit (sale m n) (plain m) (2 ^ n) (worth ws) ≤ shift = omega (arith, limit-small m n (opens .few-buyers) ws (opens .small)) in

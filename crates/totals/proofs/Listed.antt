@@ -15,7 +15,7 @@ use Rattle.theory.specs.Coalitions.{holder}
 use Rattle.theory.proofs.Sums.{sum-same}
 use Rattle.theory.proofs.Tests.{by-test}
 use Rattle.owners.specs.Owners.{bundleFrom, lacks, number}
-use Rattle.owners.specs.Prices.{bidders, entry}
+use Rattle.owners.specs.Prices.{entry}
 use Rattle.offers.specs.Offers.{Offer, market, Bids, priceAt, economy, revenue}
 use Rattle.offers.specs.Places.{four}
 use Rattle.demand.proofs.Demands.{entry-is}

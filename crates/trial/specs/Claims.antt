@@ -7,7 +7,6 @@ use Prim.Native.Nat.{ℕ, suc, min, _+_, _-_, _*_, _^_, _≤_, _<_}
 use lib.ListN.{length, take, getD}
 use Rattle.theory.specs.Lists.{over}
 use Rattle.fields.specs.Fields.{fieldsOf, lineOf}
-use Rattle.sheet.specs.Sheets.{sheetOf}
 use Rattle.sheet.specs.Tables.{cells}
 use Rattle.sheet.specs.Answers.{worthsRead}
 use Rattle.sale.specs.declared.Sale.{Sale}

@@ -5,7 +5,6 @@ use mathlib.Core.Path.{_≡_}
 use Prim.Native.Nat.{max, _-_, _≤_}
 use native.Mathlib.Nat.{sub-zero}
 use native.Mathlib.Omega.{arith}
-use borrow.Author.Needs.{needs}
 use Rattle.theory.specs.Lists.{most, upTo}
 use Rattle.theory.proofs.Loops.{most-more, most-done}
 use Rattle.owners.specs.Prices.{entry, seats, payoff, best}
