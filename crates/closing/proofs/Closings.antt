@@ -1,6 +1,6 @@
--- What closes a sale: takings that reach the revenue, and everybody demands what it holds (`closes-demanded`). The idea:
--- who is not keen demands the empty bundle, so "demanded or empty, and demanded if keen" is "demanded". So the word, the
--- revenues and the charges that the code finds make up the closing (`closing-is`).
+-- What closes a sale: takings that reach the revenue, and everybody demands what it holds (`closes-demanded`). The
+-- idea: who is not keen demands the empty bundle, so "demanded or empty, and demanded if keen" is "demanded". So the
+-- word, the revenues and the charges that the code finds make up the closing (`closing-is`).
 use mathlib.Core.Path.{_≡_, refl, sym, ap, ap₂, _∙_}
 use mathlib.Core.Bool.{Bool, true, false, not, _&&_, _||_, and-false, or-true}
 use mathlib.Core.List.{List}
@@ -72,7 +72,8 @@ module _ (O : Offer) (regular : Regular O) (ps : List ℕ) where
 
   -- by a word, T is the revenue
   word-closes : Packed O → (T : ℕ) → T ≡ revenue O ps 0 → (a : List ℕ) → a ∈ O .lists →
-      wordCloses (O .low) (O .buyers) (quoted (O .bundles) (O .worths) ps) ps T (wordOf (O .share) a) ≡ closesSale O ps a
+      wordCloses (O .low) (O .buyers) (quoted (O .bundles) (O .worths) ps) ps T (wordOf (O .share) a)
+      ≡ closesSale O ps a
   word-closes packed T e a m =
       ap₂ _&&_ (ap₂ eqb (total-word O packed a m ps) e)
       (every-same (market O .many) (O .low) _ _
@@ -93,7 +94,8 @@ module _ (O : Offer) (l ws ps : List ℕ) (low m all : ℕ) (lent : Lent O l ws 
       greatest-found O packed l (lent .words) ps e (omega (arith, packed .few)) (getD revenues e 0)
       (rw (lent .low, lent .buyers) at (reached e (omega (arith, lent .buyers))))
 
-  word-first : w ≡ first (wordCloses (O .low) (O .buyers) (quoted (O .bundles) (O .worths) ps) ps (getD revenues 0 0)) 0 l
+  word-first : w ≡ first (wordCloses (O .low) (O .buyers) (quoted (O .bundles) (O .worths) ps) ps
+      (getD revenues 0 0)) 0 l
   word-first = rw (lent .low, lent .buyers, lent .bundles, lent .worths) at found
 
   abbrev same : (a : List ℕ) → a ∈ O .lists →
@@ -119,7 +121,8 @@ module _ (O : Offer) (l ws ps : List ℕ) (low m all : ℕ) (lent : Lent O l ws 
       let i = suc k in
       let r = buyer-bids O packed i (omega arith) in
       let own : entry ps i (digit i w) ≡ priceAt O ps i (market O .holds (ownersBy O ps) i) =
-      ap (entry ps i) (bundle-is i (omega (arith, packed .few))) ∙ entry-is O i r ps (market O .holds (ownersBy O ps) i) in
+      ap (entry ps i) (bundle-is i (omega (arith, packed .few)))
+      ∙ entry-is O i r ps (market O .holds (ownersBy O ps) i) in
       let fewer : revenue O ps i ≤ revenue O ps 0 =
       most-subset (total (market O) (priceAt O ps)) (economy-fewer O i) in
       omega (arith, own, fewer, revenue-is 0 (omega arith), revenue-is i (omega arith))

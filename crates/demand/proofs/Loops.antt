@@ -1,4 +1,5 @@
--- A set given as a sum of powers, as a loop that counts up from k to n gathers it (`Gathered`). T is what the whole loop answers. Assumes nothing.
+-- A set given as a sum of powers, as a loop that counts up from k to n gathers it (`Gathered`). T is what the whole
+-- loop answers.
 use mathlib.Core.Path.{_≡_, refl, sym, _∙_}
 use mathlib.Core.Bool.{Bool, true, false}
 use Prim.Native.Nat.{ℕ, _+_, _-_, _^_, _≤_, _<_}

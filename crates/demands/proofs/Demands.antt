@@ -1,4 +1,4 @@
--- The three demands together (`demands-hold`). Assumes nothing.
+-- The three demands together (`demands-hold`).
 use Rattle.demands.specs.Claims.{Demands}
 use Rattle.demands.proofs.First.{demand-1}
 use Rattle.demands.proofs.Second.{demand-2}

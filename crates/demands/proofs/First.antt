@@ -181,7 +181,8 @@ settled-uce b o o′ r says z =
 direct-numbers : (b : List ℕ) (d : Direct) → d ≡ directAnswer b → Numbered b [] (d .number) (d .place)
 direct-numbers b d e = same-numbers (direct-number b d e) (direct-place b d e) (numbered-plain b)
 
-read-again : (b : List ℕ) → worthsRead b .number ≢ 0 → worthsRead b ≡ refusal (worthsRead b .number) (worthsRead b .place)
+read-again : (b : List ℕ) → worthsRead b .number ≢ 0 → worthsRead b
+    ≡ refusal (worthsRead b .number) (worthsRead b .place)
 unfolding worthsRead worthsBy refusal
 read-again b h = rw (ne-eqb (sheetFault b .number) 0 h)
 

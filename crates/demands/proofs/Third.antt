@@ -1,5 +1,5 @@
--- Demand 3 (`demand-3`): sale and direct way answer alike; the direct way's list is the first of greatest total, and its
--- payments are exact; nobody gains by another table.
+-- Demand 3 (`demand-3`): sale and direct way answer alike; the direct way's list is the first of greatest total, and
+-- its payments are exact; nobody gains by another table.
 use mathlib.Core.Path.{_≡_, refl, sym, ap, subst, _∙_}
 use mathlib.Core.List.{List}
 use Prim.Native.Nat.{ℕ, zero, suc, _+_, _-_, _≤_, _<_}
@@ -15,7 +15,8 @@ use Rattle.owners.proofs.Owners.{lacks-means}
 use Rattle.sheet.specs.Sheets.{sheetOf}
 use Rattle.sheet.specs.Questions.{sheetFault}
 use Rattle.offers.specs.Offers.{Offer, offerOf, market, worthOf, priceAt}
-use Rattle.offers.specs.Rounds.{lastPrices, discountFor, paymentFor, totalOf, greatestWithout, directOwners, directPayment}
+use Rattle.offers.specs.Rounds.{lastPrices, discountFor, paymentFor, totalOf, greatestWithout, directOwners}
+use Rattle.offers.specs.Rounds.{directPayment}
 use Rattle.offers.specs.Claims.{Allocated, Regular}
 use Rattle.offers.specs.Places.{four, perBuyer}
 use Rattle.offers.proofs.Places.{per-buyer-at, per-buyer-same, per-buyer-past, four-short, four-past, four-bundle}
@@ -85,7 +86,8 @@ module _ (O : Offer) (good : Regular O) (lists : Allocated O) (few : O .buyers �
           most = λ a q. most-upper (totalOf O) (listed a .1 q);
           ties = λ a q e.
               rw short (direct-ties O good (ComesBefore _<_) (lists .allocations-ordered) a (listed a .1 q) e);
-          payments = λ i r. (greatestWithout O i, greatest i r, rw (due-in i r, bundle-is i r) (direct-pays O good i r));
+          payments =
+              λ i r. (greatestWithout O i, greatest i r, rw (due-in i r, bundle-is i r) (direct-pays O good i r));
           absent = λ i h. per-buyer-past m (directPayment O) (i - 1) (omega arith);
           bounded = bound;
         }

@@ -20,8 +20,8 @@ use Rattle.sale.specs.Answers.{refusedDemand, refusedSale, demandAnswer, SaleSa
 use Rattle.direct.specs.declared.Direct.{Direct}
 use Rattle.direct.specs.Answers.{refusedDirect, directAnswer}
 
--- Demand 1 (rules 3.11 to 3.15 and 5.12). A question that an entry puts after 1 to 8: its number, what it asks, and what
--- the place says where it gets a no.
+-- Demand 1 (rules 3.11 to 3.15 and 5.12). A question that an entry puts after 1 to 8: its number, what it asks, and
+-- what the place says where it gets a no.
 pub record Own : Type 1 where
   pub number : ℕ
   pub Yes : Type 0
@@ -124,7 +124,8 @@ pub record Reckoned (O : Offer) (d : Direct) : Type 0 where
 pub record AlikeBut (i : ℕ) (w v : Sheet) : Type 0 where
   pub buyers : w .buyers ≡ v .buyers
   pub lots : w .lots ≡ v .lots
-  pub others : (k s : ℕ) → Among (w .buyers) 1 k → k ≢ i → s < 2 ^ w .lots → worthOf (lotsOf w) k s ≡ worthOf (lotsOf v) k s
+  pub others : (k s : ℕ) → Among (w .buyers) 1 k → k ≢ i → s < 2 ^ w .lots → worthOf (lotsOf w) k s
+      ≡ worthOf (lotsOf v) k s
 
 -- rule 5.15: i has no less from the first answer than from the second, by the worths of O; as sums
 abbrev pub NoGain : Offer → ℕ → List ℕ → List ℕ → List ℕ → List ℕ → Type 0

@@ -46,7 +46,8 @@ module _ (b : List ℕ) (d : Direct) (e : d ≡ directAnswer b) where
   unfolding directForm
   direct-open z = (
     sym direct-number ∙ z,
-    direct-told ∙ told-yes (directForm b) (sheetFault b) (told-number (directForm b) (sheetFault b) ∙ sym direct-number ∙ z),
+    direct-told ∙ told-yes (directForm b) (sheetFault b)
+        (told-number (directForm b) (sheetFault b) ∙ sym direct-number ∙ z),
   )
 
   pub direct-closed : d .number ≢ 0 → d ≡ refusedDirect (fault (d .number) (d .place))

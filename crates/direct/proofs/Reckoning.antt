@@ -59,7 +59,8 @@ module _ (O : Offer) (l ws : List ℕ) (low m all : ℕ) (lent : Lent O l ws low
       ∙ entry-is O i r (O .worths) (market O .holds (directOwners O) i) in
       omega (arith, own, greatest-is 0 (omega arith), greatest-is i (omega arith))
 
-  pub reckoned-is : (owners payments : List ℕ) → owners ≡ ownersOf w → payments ≡ perBuyer m (wordPayment greatest ws w) →
+  pub reckoned-is : (owners payments : List ℕ) → owners ≡ ownersOf w → payments
+      ≡ perBuyer m (wordPayment greatest ws w) →
       _≡_ {A = Direct}
       (record { number = 0; place = 0; total = getD greatest 0 0; owners = owners; payments = payments }) (reckoned O)
   unfolding reckoned

@@ -11,7 +11,8 @@ use Rattle.direct.specs.declared.Direct.{Direct}
 
 -- rule 3.14: number and place, and zeros
 unfoldable pub refusedDirect : Fault → Direct
-refusedDirect f = record { number = f .number; place = f .place; total = 0; owners = replicate 4 0; payments = replicate 6 0 }
+refusedDirect f =
+    record { number = f .number; place = f .place; total = 0; owners = replicate 4 0; payments = replicate 6 0 }
 
 -- rule 5.11: the greatest total, its first list, the payments
 unfoldable pub reckoned : Offer → Direct

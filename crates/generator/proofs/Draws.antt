@@ -1,4 +1,4 @@
--- All that is claimed of the generator, by computing. Assumes nothing.
+-- All that is claimed of the generator, by computing.
 use mathlib.Core.Path.{refl}
 use Rattle.generator.specs.Xorwow.{drawn, start}
 use Rattle.generator.specs.Claims.{Draws}

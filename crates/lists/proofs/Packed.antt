@@ -1,5 +1,5 @@
--- Offers whose allocations are words (`Packed`): to at most six buyers, with at most four lots. What stands in a word is
--- what stands in the allocation (`held`, `in-word`), and the lots of a sheet are such (`lots-packed`, `lots-lent`).
+-- Offers whose allocations are words (`Packed`): to at most six buyers, with at most four lots. What stands in a word
+-- is what stands in the allocation (`held`, `in-word`), and the lots of a sheet are such (`lots-packed`, `lots-lent`).
 use mathlib.Core.Path.{_≡_, refl, ap, _∙_}
 use mathlib.Core.Bool.{_||_}
 use mathlib.Core.List.{List}

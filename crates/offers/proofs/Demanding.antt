@@ -14,7 +14,8 @@ use Rattle.owners.specs.Prices.{Priced}
 use Rattle.owners.proofs.Bits.{demand-bit}
 use Rattle.owners.proofs.Prices.{small-fair, quote-answers, raised-price as price-raised}
 use Rattle.owners.proofs.Sales.{priced}
-use Rattle.offers.specs.Offers.{Offer, market, Bids, seats, member, bits, worthOf, priceAt, theAuction, best, quote}
+use Rattle.offers.specs.Offers.{Offer, market, Bids, seats, member, bits, worthOf, priceAt, theAuction, best}
+use Rattle.offers.specs.Offers.{quote}
 use Rattle.offers.specs.Offers.{demandSet, isKeen}
 use Rattle.offers.specs.Rounds.{raised}
 use Rattle.offers.specs.Claims.{Prices, Demanded, Regular}
@@ -43,7 +44,8 @@ module _ (O : Offer) (regular : Regular O) (ps : List ℕ) (prices : Prices ps) 
       let (to, from) = wants-means i s r h in
       (λ x. to (sym is-bit ∙ x), λ most. is-bit ∙ from most)
 
-  pub keen-means : (i : ℕ) → Bids O i → (isKeen O ps i ≡ true) ↔ ((s : ℕ) × (s < all) × (priceAt O ps i s < worthOf O i s))
+  pub keen-means : (i : ℕ) → Bids O i →
+      (isKeen O ps i ≡ true) ↔ ((s : ℕ) × (s < all) × (priceAt O ps i s < worthOf O i s))
   keen-means i r =
       let (to, from) = answers .eager i r in (
         λ x. let (s, h, e) = answers .reached i r in (s, h, omega (arith, to x, e)),
@@ -59,4 +61,5 @@ module _ (O : Offer) (regular : Regular O) (ps : List ℕ) (prices : Prices ps) 
       priceAt O (raised O set ps) i s ≡ priceAt O ps i s + when (member O set i && bit s (demandSet O ps i)) 1
   unfolding raised
   raised-price set i s r l h =
-      price-raised known (member O set) ps i s r l h ∙ ap (λ t. priceAt O ps i s + when (member O set i && t) 1) (sym (demand-bit all (quote O ps) i s h))
+      price-raised known (member O set) ps i s r l h
+      ∙ ap (λ t. priceAt O ps i s + when (member O set i && t) 1) (sym (demand-bit all (quote O ps) i s h))

@@ -1,6 +1,6 @@
--- The economies of an offer by their numbers (`Numbers`, `economy-number`, `number-economy`, `at-number`); each has some
--- of all allocations (`economy-fewer`), a buyer is present in every one but its own (`present-other`), and a revenue is reached and not
--- passed (`revenue-greatest`).
+-- The economies of an offer by their numbers (`Numbers`, `economy-number`, `number-economy`, `at-number`); each has
+-- some of all allocations (`economy-fewer`), a buyer is present in every one but its own (`present-other`), and a
+-- revenue is reached and not passed (`revenue-greatest`).
 use mathlib.Core.Path.{_≡_, refl}
 use mathlib.Core.Logic.{_≢_, _↔_}
 use mathlib.Core.Bool.{true}

@@ -82,7 +82,8 @@ module _ (O : Offer) (regular : Regular O) (k : ℕ) (l : k < length (saleSets O
       let ((a, m, is), _) = revenue-greatest O regular ps e in
       let (_, most) = revenue-greatest O regular next e in
       let more : total (market O) (priceAt O ps) a ≤ total (market O) (priceAt O next) a =
-      sum-mono (market O .many) (O .low) (λ i. priceAt O ps i (market O .holds a i)) (λ i. priceAt O next i (market O .holds a i))
+      sum-mono (market O .many) (O .low) (λ i. priceAt O ps i (market O .holds a i))
+      (λ i. priceAt O next i (market O .holds a i))
       (λ i r. price-rises i (market O .holds a i) r (regular .hall .bundled a (economy-fewer O e a m) i r)) in
       omega (arith, is, more, most a m)
 

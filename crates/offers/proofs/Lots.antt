@@ -121,7 +121,8 @@ module _ (m n : ℕ) (ws : List ℕ) where
 all-bits : (n j : ℕ) → n ≤ 4 → j < n → bit j (2 ^ n - 1) ≡ true
 all-bits n j h g =
     let test : every 5 0 (λ n. every n 0 (λ j. bit j (2 ^ n - 1))) ≡ true = refl in
-    every-means 5 0 {t = λ n. every n 0 (λ j. bit j (2 ^ n - 1))} (λ n r. every-means n 0 (λ j r. itself (bit j (2 ^ n - 1)))) .0 test n (omega arith) j (omega arith)
+    every-means 5 0 {t = λ n. every n 0 (λ j. bit j (2 ^ n - 1))}
+    (λ n r. every-means n 0 (λ j r. itself (bit j (2 ^ n - 1)))) .0 test n (omega arith) j (omega arith)
 
 -- a buyer's worth stands on its line
 pub worth-line : (w : Sheet) → ((i : ℕ) → worth w i 0 ≡ 0) → (i s : ℕ) → worthOf (lotsOf w) i s ≡ worth w (i - 1) s

@@ -1,7 +1,7 @@
 -- The outcome of an offer's sale is the direct way's (`same-owners`, `same-payment`), and nothing is cut off in either
 -- (`payment-exact`, `direct-pays`). The direct way's list is an allocation of greatest total (`direct-in`,
--- `direct-total`), the first in order (`direct-ties`); nobody pays more than its worth (`direct-cheap`), or gains by other
--- worths than its true ones (`no-gain`).
+-- `direct-total`), the first in order (`direct-ties`); nobody pays more than its worth (`direct-cheap`), or gains by
+-- other worths than its true ones (`no-gain`).
 use mathlib.Core.Path.{_≡_}
 use mathlib.Core.Logic.{_≢_, _⊎_}
 use mathlib.Core.List.{List, []}
@@ -15,7 +15,8 @@ use Rattle.theory.proofs.Settled as settled
 use Rattle.owners.specs.Sales.{Third}
 use Rattle.owners.proofs.Sales.{sale-third, no-gain-direct}
 use Rattle.offers.specs.Offers.{Offer, market, Bids, seats, bits, worthOf, priceAt, without, theAuction}
-use Rattle.offers.specs.Rounds.{roundLimit, startPrices, pricesFrom, lastPrices, ownersBy, discountFor, paymentFor}
+use Rattle.offers.specs.Rounds.{roundLimit, startPrices, pricesFrom, lastPrices, ownersBy, discountFor}
+use Rattle.offers.specs.Rounds.{paymentFor}
 use Rattle.offers.specs.Rounds.{totalOf, greatestWithout, directOwners, directPayment}
 use Rattle.offers.specs.Claims.{Regular}
 use Rattle.offers.proofs.Economies.{economy-fewer}

@@ -1,6 +1,6 @@
--- Six places, one to a buyer: with nobody (`place-absent`), with a buyer (`place-taken`), and all of them (`per-buyer-same`,
--- `per-buyer-at`, `per-buyer-past`). Four for the owners: those there are (`four-short`), then zeros (`four-past`), which
--- change no buyer's bundle (`four-bundle`).
+-- Six places, one to a buyer: with nobody (`place-absent`), with a buyer (`place-taken`), and all of them
+-- (`per-buyer-same`, `per-buyer-at`, `per-buyer-past`). Four for the owners: those there are (`four-short`), then zeros
+-- (`four-past`), which change no buyer's bundle (`four-bundle`).
 use mathlib.Core.Path.{_≡_, refl, sym, ap, _∙_}
 use mathlib.Core.List.{List}
 use Prim.Native.Nat.{ℕ, suc, _+_, _-_, _≤_, _<_}
@@ -25,7 +25,8 @@ place-absent m f k h = rw (le-ltb k m h) refl
 pub place-taken : (m : ℕ) (f : ℕ → ℕ) (k : ℕ) → k < m → atPlace m f k ≡ f (k + 1)
 place-taken m f k h = rw (lt-ltb k m h, add-one k) refl
 
-pub per-buyer-same : (m : ℕ) (f g : ℕ → ℕ) → m ≤ 6 → ((k : ℕ) → k < m → f (suc k) ≡ g (suc k)) → perBuyer m f ≡ perBuyer m g
+pub per-buyer-same : (m : ℕ) (f g : ℕ → ℕ) → m ≤ 6 → ((k : ℕ) → k < m → f (suc k) ≡ g (suc k)) → perBuyer m f
+    ≡ perBuyer m g
 unfolding perBuyer
 per-buyer-same m f g few h =
     tabulate-same 6 0 (atPlace m f) (atPlace m g)
@@ -40,7 +41,8 @@ unfolding perBuyer
 per-buyer-past m f k h =
     elim (decLt k 6) [
       | yes l ↦ tabulate-at 6 0 (atPlace m f) k 0 l ∙ rw (zero-add k, le-ltb k m h) refl
-      | no l ↦ List·getD-eq-default (tabulate 6 0 (atPlace m f)) 0 {n = k} (omega (arith, tabulate-length 6 0 (atPlace m f)))
+      | no l ↦ List·getD-eq-default (tabulate 6 0 (atPlace m f)) 0 {n = k}
+          (omega (arith, tabulate-length 6 0 (atPlace m f)))
     ]
 
 -- four places: the owners, and zeros behind them, which change no buyer's bundle

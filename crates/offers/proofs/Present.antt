@@ -23,7 +23,8 @@ use Rattle.offers.specs.Offers.{demands, isKeen, revenue}
 use Rattle.offers.specs.Claims.{Agree, SameAnswers, Regular}
 use Rattle.offers.proofs.Economies.{economy-fewer}
 
-lists-fewer : (O : Offer) (e : Economy (List ℕ)) → e ∈ theAuction O .economies → (a : List ℕ) → a ∈ e .lists → a ∈ O .lists
+lists-fewer : (O : Offer) (e : Economy (List ℕ)) → e ∈ theAuction O .economies → (a : List ℕ) → a ∈ e .lists →
+    a ∈ O .lists
 lists-fewer O =
     economies-all (O .buyers) (O .lists) (λ e. (a : List ℕ) → a ∈ e .lists → a ∈ O .lists) (λ a h. h)
     (λ i r a h. keep-from (lacks i) (O .lists) h .0)
@@ -50,12 +51,15 @@ module _ (O : Offer) (regular : Regular O) (ps qs : List ℕ) (agree : Agree O p
   total-same a m = sum-same (market O .many) (O .low) _ _ (λ i r. price-same i (market O .holds a i) r (below a m i r))
 
   revenue-same : (e : ℕ) → revenue O ps e ≡ revenue O qs e
-  revenue-same e = most-same (total (market O) (priceAt O ps)) (total (market O) (priceAt O qs)) (economy O e) (λ a m. total-same a (economy-fewer O e a m))
+  revenue-same e =
+      most-same (total (market O) (priceAt O ps)) (total (market O) (priceAt O qs)) (economy O e)
+      (λ a m. total-same a (economy-fewer O e a m))
 
   pub reads-present : SameAnswers O ps qs
   reads-present =
       record {
-        demand = λ i r. sum-same (O .bundles) 0 _ _ (λ s q. ap (λ t. when t (2 ^ s)) (demands-same i s r (omega arith)));
+        demand =
+            λ i r. sum-same (O .bundles) 0 _ _ (λ s q. ap (λ t. when t (2 ^ s)) (demands-same i s r (omega arith)));
         keen = keen-same;
         revenues = λ e _. revenue-same e;
         fitting = λ e _ a m.
@@ -69,7 +73,8 @@ module _ (O : Offer) (regular : Regular O) (ps qs : List ℕ) (agree : Agree O p
                   (λ i r. rw (demands-same i (market O .holds a i) r (below a n i r))),
             );
         chosen =
-            lowest-alike (market O) (quote O ps) (quote O qs) keen-same (theAuction O .member) (theAuction O .sets) (theAuction O .economies) (λ e m.
+            lowest-alike (market O) (quote O ps) (quote O qs) keen-same (theAuction O .member) (theAuction O .sets)
+            (theAuction O .economies) (λ e m.
             let sub = lists-fewer O e m in
             record {
               prices = λ a k i r. price-same i (market O .holds a i) r (below a (sub a k) i r);

@@ -35,13 +35,15 @@ module _ (O : Offer) (regular : Regular O) (ps : List ℕ) (prices : Prices ps) 
   fits-means e a k =
       means-via
       (and-means (eqb-means (takings a) (most takings (economy O e)))
-      (every-means (market O .many) (O .low) (λ i r. or-means (eqb-means (market O .holds a i) 0) (held-means e a k i r))))
+      (every-means (market O .many) (O .low)
+      (λ i r. or-means (eqb-means (market O .holds a i) 0) (held-means e a k i r))))
       (λ (top, each). (λ c h. omega (arith, most-upper takings h), each))
       (λ (top, each). (sym (most-is takings (takings a) top k refl), each))
 
   -- every member present has a demanded bundle
   abbrev Served : ℕ → ℕ → List ℕ → Type 0
-  Served set e a = (i : ℕ) → Bids O i → presentIn e i ≡ true → member O set i ≡ true → Demanded O ps i (market O .holds a i)
+  Served set e a =
+      (i : ℕ) → Bids O i → presentIn e i ≡ true → member O set i ≡ true → Demanded O ps i (market O .holds a i)
 
   served-means : (set e : ℕ) (y : Economy (List ℕ)) → Numbers O y e →
       Means (supplied (market O) (quote O ps) (member O set) y)

@@ -36,7 +36,8 @@ use Rattle.offers.specs.Claims.{Prices, Supports, UCE, setAt, Ascending,
 use Rattle.offers.proofs.Economies.{Numbers, economy-number, number-economy, economy-fewer}
 
 -- the state after one choice more
-after-one : {A : Type 0} (step : ℕ → A → A) (σ : A) (l : List ℕ) (k : ℕ) → k < length l → after step σ (take (suc k) l) ≡ step (getD l k 0) (after step σ (take k l))
+after-one : {A : Type 0} (step : ℕ → A → A) (σ : A) (l : List ℕ) (k : ℕ) → k < length l → after step σ (take (suc k) l)
+    ≡ step (getD l k 0) (after step σ (take k l))
 after-one step σ [] k h = absurd (omega arith)
 after-one step σ (x ∷ l) zero h = refl
 after-one step σ (x ∷ l) (suc k) h = after-one step (step x σ) l k (omega arith)
@@ -122,14 +123,18 @@ module _ (O : Offer) (regular : Regular O) where
       (f .passes, λ other l. f .before other (omega arith) l)
 
   pub lowest-below : (ps : List ℕ) (set : ℕ) → lowest O ps ≡ suc set → set < 2 ^ bits O
-  lowest-below ps set e = omega (arith, least-of (market O) (quote O ps) (X .economies) (X .member) (X .sets) set e .among)
+  lowest-below ps set e =
+      omega (arith, least-of (market O) (quote O ps) (X .economies) (X .member) (X .sets) set e .among)
 
   -- and none of its proper subsets is undersupplied
-  pub lowest-minimal : (ps : List ℕ) (set : ℕ) → lowest O ps ≡ suc set → Minimal (market O) (quote O ps) (X .economies) (member O set)
-  lowest-minimal ps set e = minimal-of (market O) (quote O ps) (X .economies) (X .member) (X .sets) (regular .hall .ranked) set e
+  pub lowest-minimal : (ps : List ℕ) (set : ℕ) → lowest O ps ≡ suc set →
+      Minimal (market O) (quote O ps) (X .economies) (member O set)
+  lowest-minimal ps set e =
+      minimal-of (market O) (quote O ps) (X .economies) (X .member) (X .sets) (regular .hall .ranked) set e
 
   -- nothing is cut off in a discount, at any prices
-  pub exact-discount : (ps : List ℕ) (i : ℕ) → Among (O .buyers) 1 i → discountFor O ps i + revenue O ps i ≡ revenue O ps 0
+  pub exact-discount : (ps : List ℕ) (i : ℕ) → Among (O .buyers) 1 i → discountFor O ps i + revenue O ps i
+      ≡ revenue O ps 0
   unfolding discountFor
   exact-discount ps zero r = absurd (omega arith)
   exact-discount ps (suc i) r = discount-exact (market O) (priceAt O ps) (economy-fewer O (suc i))
@@ -180,7 +185,8 @@ module _ (O : Offer) (regular : Regular O) where
         last-uce = uce-from O (lastPrices O) (second .universal);
         none-earlier = λ k l u. second .not-yet k l (uce-to O (pricesAfter O k) u);
         overdemand = λ k l all.
-            undersupplied-keen (market O) (quote O (pricesAfter O k)) (X .economies) (member O (setAt O k)) (member O all)
+            undersupplied-keen (market O) (quote O (pricesAfter O k)) (X .economies) (member O (setAt O k))
+            (member O all)
             (lowest-least (pricesAfter O k) (setAt O k) (second .each k l) .0);
         lowest-set = second .each;
         least-set = λ k l. lowest-least (pricesAfter O k) (setAt O k) (second .each k l);
@@ -196,7 +202,9 @@ module _ (O : Offer) (regular : Regular O) where
             omega (
               arith,
               second .raises,
-              sum-same (market O .many) (O .low) (λ i. best O (lastPrices O) i - 65535) (last X (worthOf O) (start X (worthOf O)) (roundLimit O)) (λ i r. omega (arith, second .last-best i r)),
+              sum-same (market O .many) (O .low) (λ i. best O (lastPrices O) i - 65535)
+                  (last X (worthOf O) (start X (worthOf O)) (roundLimit O))
+                  (λ i r. omega (arith, second .last-best i r)),
             );
         sold-supports = sold-supports;
         sold-fits = sold .0;
@@ -217,7 +225,8 @@ module _ (O : Offer) (regular : Regular O) where
           | no h ↦
               let e : k ≡ length (saleSets O) = omega arith in
               least-none (X .sets) 0 (λ n. undersupplied O (pricesAfter O k) n)
-              (ap (λ j. lowest O (pricesAfter O j)) e ∙ ap (lowest O) (ascending .to-last) ∙ settles) 0 (omega (arith, pow-some (bits O)))
+              (ap (λ j. lowest O (pricesAfter O j)) e ∙ ap (lowest O) (ascending .to-last) ∙ settles) 0
+              (omega (arith, pow-some (bits O)))
         ]
 
     pub fits-always : (e : ℕ) → e ≤ O .buyers → (a : List ℕ) × (a ∈ economy O e) × (fits O (pricesAfter O k) e a ≡ true)
@@ -226,19 +235,27 @@ module _ (O : Offer) (regular : Regular O) where
         let (y, m, (same, _)) = number-economy O e h in
         let served : supplied (market O) q (member O 0) y ≡ true =
         by-test (supplied (market O) q (member O 0) y) (λ p. p) (λ p. fails
-        (undersupplied-means (market O) q (X .economies) (member O 0) .1 (λ i r t. fails t (member-none O i), (y, m, λ z. fails z p))) empty-supplied) in
+        (undersupplied-means (market O) q (X .economies) (member O 0) .1
+        (λ i r t. fails t (member-none O i), (y, m, λ z. fails z p))) empty-supplied) in
         let (a, n, c) = supplied-means (market O) q (member O 0) y .0 served in
         subst (λ l. (a : List ℕ) × (a ∈ l) × (fits-of (market O) q l a ≡ true)) same (a, n, c .0)
 
     -- each price is the worth less the payoff, cut off at 0
-    pub own-prices : (i s : ℕ) → Bids O i → s < all → priceAt O (pricesAfter O k) i s ≡ worthOf O i s - (best O (pricesAfter O k) i - 65535)
+    pub own-prices : (i s : ℕ) → Bids O i → s < all → priceAt O (pricesAfter O k) i s
+        ≡ worthOf O i s - (best O (pricesAfter O k) i - 65535)
     unfolding raised startPrices setsFrom saleSets pricesAfter
     own-prices i s r h =
         let v = worthOf O in
         let hall′ = regular .hall in
         let worths′ = regular .worths in
-        let kept = table-kept X S all (bits O) (O .lists) hall′ v worths′ (zeros S) (start X v) (begins X S all (bits O) (O .lists) hall′ v worths′) (roundLimit O) k in
-        omega (arith, kept .prices i r s h, best-is (priced X S all (bits O) (O .lists) hall′ v worths′) (pricesAfter O k) _ kept i r)
+        let kept = table-kept X S all (bits O) (O .lists) hall′ v worths′ (zeros S) (start X v)
+        (begins X S all (bits O) (O .lists) hall′ v worths′) (roundLimit O) k in
+        omega (
+          arith,
+          kept .prices i r s h,
+          best-is (priced X S all (bits O) (O .lists) hall′ v worths′)
+              (pricesAfter O k) _ kept i r,
+        )
 
     pub price-bound : (i s : ℕ) → Bids O i → s < all → priceAt O (pricesAfter O k) i s ≤ worthOf O i s
     unfolding raised startPrices setsFrom saleSets pricesAfter

@@ -44,8 +44,8 @@ module _ (O : Offer) where
   abbrev pub Demanded : List ℕ → ℕ → ℕ → Type 0
   Demanded ps i s = (t : ℕ) → t < O .bundles → worthOf O i t + priceAt O ps i s ≤ worthOf O i s + priceAt O ps i t
 
-  -- definition 1: a competitive equilibrium of the economy e (0: of all bidders): a list of its allocations, of greatest
-  -- takings among them, in which every bidder present, keen or not, holds a bundle of greatest payoff
+  -- definition 1: a competitive equilibrium of the economy e (0: of all bidders): a list of its allocations, of
+  -- greatest takings among them, in which every bidder present, keen or not, holds a bundle of greatest payoff
   pub record Supports (ps : List ℕ) (e : ℕ) (a : List ℕ) : Type 0 where
     pub among : a ∈ economy O e
     pub seller : (c : List ℕ) → c ∈ economy O e → total (market O) (priceAt O ps) c ≤ total (market O) (priceAt O ps) a
@@ -112,8 +112,8 @@ module _ (O : Offer) where
         ((i : ℕ) → Bids O i → member O all i ≡ isKeen O ps i) → undersupplied O ps all ≡ true
     -- no set, the empty one included, is undersupplied exactly if the prices are a UCE
     pub settled-iff-uce : (lowest O ps ≡ 0) ↔ UCE ps
-    -- the lowest undersupplied set is the least, and none of its proper subsets is undersupplied (minimal, as definition
-    -- 11 has it where there is universal overdemand)
+    -- the lowest undersupplied set is the least, and none of its proper subsets is undersupplied (minimal, as
+    -- definition 11 has it where there is universal overdemand)
     pub lowest-least : (set : ℕ) → lowest O ps ≡ suc set →
         (undersupplied O ps set ≡ true) × ((other : ℕ) → other < set → undersupplied O ps other ≡ false)
     pub lowest-minimal : (set : ℕ) → lowest O ps ≡ suc set →
@@ -136,7 +136,8 @@ module _ (O : Offer) where
     pub own-prices : (i s : ℕ) → Bids O i → s < O .bundles →
         priceAt O (pricesAfter O k) i s ≡ worthOf O i s - (best O (pricesAfter O k) i - 65535)
     pub price-bound : (i s : ℕ) → Bids O i → s < O .bundles → priceAt O (pricesAfter O k) i s ≤ worthOf O i s
-    pub absent-zero : (j : ℕ) → j < 16 * seats O .rows → read (seats O) (O .bundles) j ≡ false → getD (pricesAfter O k) j 0 ≡ 0
+    pub absent-zero : (j : ℕ) → j < 16 * seats O .rows → read (seats O) (O .bundles) j ≡ false →
+        getD (pricesAfter O k) j 0 ≡ 0
 
   -- the recorded set of round k + 1
   abbrev pub setAt : ℕ → ℕ
@@ -156,13 +157,13 @@ module _ (O : Offer) where
     -- the last prices are a UCE, and no earlier ones are
     pub last-uce : UCE (lastPrices O)
     pub none-earlier : (k : ℕ) → k < length (saleSets O) → UCE (pricesAfter O k) → ⊥
-    -- universal overdemand (definition 10) in every round: some allocation fits (`fits-always`), and the set of all keen
-    -- bidders is undersupplied
+    -- universal overdemand (definition 10) in every round: some allocation fits (`fits-always`), and the set of all
+    -- keen bidders is undersupplied
     pub overdemand : (k : ℕ) → k < length (saleSets O) → (all : ℕ) →
         ((i : ℕ) → Bids O i → member O all i ≡ isKeen O (pricesAfter O k) i) →
         undersupplied O (pricesAfter O k) all ≡ true
-    -- each recorded set is the lowest undersupplied one at its prices, minimal by definition 11, one of the bidders there
-    -- are, and has a member
+    -- each recorded set is the lowest undersupplied one at its prices, minimal by definition 11, one of the bidders
+    -- there are, and has a member
     pub lowest-set : (k : ℕ) → k < length (saleSets O) → lowest O (pricesAfter O k) ≡ suc (setAt k)
     pub least-set : (k : ℕ) → k < length (saleSets O) →
         (undersupplied O (pricesAfter O k) (setAt k) ≡ true)

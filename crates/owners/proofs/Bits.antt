@@ -1,6 +1,6 @@
--- Each set of bidders has a number, the sum of 2 ^ j over its bidders' seats j, and a proper subset has a lower one (`seats-ranked`). Offers the laws of
--- `number` (`number-bit`, `number-below`, and `number-down` for loops), of demand sets (`demand-bit`, `demand-below`),
--- and that m buyers sit (`plain-seated`).
+-- Each set of bidders has a number, the sum of 2 ^ j over its bidders' seats j, and a proper subset has a lower one
+-- (`seats-ranked`). Offers the laws of `number` (`number-bit`, `number-below`, and `number-down` for loops), of demand
+-- sets (`demand-bit`, `demand-below`), and that m buyers sit (`plain-seated`).
 use mathlib.Core.Path.{_≡_, sym, ap, _∙_}
 use mathlib.Core.Bool.{Bool, true, false, _&&_}
 use Prim.Native.Nat.{ℕ, zero, suc, _+_, _-_, _*_, _/_, _%_, _^_, _≤_, _<_}
@@ -21,7 +21,9 @@ use Rattle.owners.specs.Prices.{Seats, Seated, plain, seatMember, demand
 pub number-below : (k s : ℕ) (t : ℕ → Bool) → number k s t < 2 ^ k
 unfolding number
 number-below zero s t = omega arith
-number-below (suc k) s t = by-test (t s) (λ e. rw e (omega (arith, number-below k (suc s) t))) (λ e. rw e (omega (arith, number-below k (suc s) t)))
+number-below (suc k) s t =
+    by-test (t s) (λ e. rw e (omega (arith, number-below k (suc s) t)))
+    (λ e. rw e (omega (arith, number-below k (suc s) t)))
 
 pub half-of : (b : Bool) (y : ℕ) → (when b 1 + 2 * y) / 2 ≡ y
 half-of true y = omega arith
@@ -56,13 +58,16 @@ number-down m i n t lo hi e =
     rw (a, b, e)
 
 -- no number with all these bits is lower
-number-under : (k s : ℕ) (t : ℕ → Bool) (x : ℕ) → ((j : ℕ) → j < k → t (s + j) ≡ true → bit j x ≡ true) → number k s t ≤ x
+number-under : (k s : ℕ) (t : ℕ → Bool) (x : ℕ) → ((j : ℕ) → j < k → t (s + j) ≡ true → bit j x ≡ true) → number k s t
+    ≤ x
 unfolding number
 number-under zero s t x h = omega arith
 number-under (suc k) s t x h =
-    let half = number-under k (suc s) t (x / 2) (λ j l p. sym (bit-half j x) ∙ h (suc j) (omega arith) (ap t (omega arith) ∙ p)) in
+    let half = number-under k (suc s) t (x / 2)
+    (λ j l p. sym (bit-half j x) ∙ h (suc j) (omega arith) (ap t (omega arith) ∙ p)) in
     by-test (t s)
-    (λ p. let odd : x / 1 % 2 ≡ 1 = eqb-true (x / 1 % 2) 1 (h 0 (omega arith) (ap t (omega arith) ∙ p)) in rw p (omega arith))
+    (λ p. let odd : x / 1 % 2
+    ≡ 1 = eqb-true (x / 1 % 2) 1 (h 0 (omega arith) (ap t (omega arith) ∙ p)) in rw p (omega arith))
     (λ p. rw p (omega arith))
 
 -- the numbering by seats
@@ -82,10 +87,15 @@ module _ {A : Type 0} (M : Market A) (S : Seats) (bits : ℕ) (seated : Seated S
             let (taken, on) = and-means (itself (S .taken j)) (itself (t (S .sitter j))) .0 (ap u (omega arith) ∙ p) in
             let (r, e) = seated .seats j taken in
             ap (λ j. bit j k) (sym e) ∙ beneath .inside (S .sitter j) r on) in
-            elim (ℕ-discrete n k) [ yes e ↦ fails has (ap (bit (S .seat i)) (sym e) ∙ same i r ∙ lacks) | no e ↦ omega arith ],
+            elim (ℕ-discrete n k) [
+              | yes e ↦ fails has
+                  (ap (bit (S .seat i)) (sym e) ∙ same i r ∙ lacks)
+              | no e ↦ omega arith
+            ],
       )
 
-pub ranked-numbered : {A : Type 0} (M : Market A) (member : ℕ → ℕ → Bool) (sets : ℕ) → Ranked M member sets → Numbered M member sets
+pub ranked-numbered : {A : Type 0} (M : Market A) (member : ℕ → ℕ → Bool) (sets : ℕ) → Ranked M member sets →
+    Numbered M member sets
 ranked-numbered M member sets ranked t = let (n, l, same, _) = ranked t in (n, l, same)
 
 -- sets have as many bits as there are bidders, or up to six

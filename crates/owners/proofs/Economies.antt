@@ -1,5 +1,5 @@
--- The economies of owner lists, of all and of all but one: what holds of both kinds holds of each (`economies-all`), and each has the lists that
--- nobody absent has a part in (`economies-part`). Assumes nothing.
+-- The economies of owner lists, of all and of all but one: what holds of both kinds holds of each (`economies-all`),
+-- and each has the lists that nobody absent has a part in (`economies-part`).
 use mathlib.Core.Path.{refl, sym, ap, subst}
 use mathlib.Core.Logic.{inl, inr}
 use mathlib.Core.Bool.{not}
@@ -17,7 +17,8 @@ use Rattle.owners.specs.Owners.{market, lacks, lackingFrom, economies}
 use Rattle.owners.proofs.Owners.{bundle-none}
 
 module _ (m : ℕ) (al : List (List ℕ)) where
-  lackings-all : (P : Economy (List ℕ) → Type 0) (k s : ℕ) → ((i : ℕ) → Among k s i → P (lacking i (keep (lacks i) al))) →
+  lackings-all : (P : Economy (List ℕ) → Type 0) (k s : ℕ) →
+      ((i : ℕ) → Among k s i → P (lacking i (keep (lacks i) al))) →
       (e : Economy (List ℕ)) → e ∈ lackingFrom k s al → P e
   lackings-all P zero s each e h = absurd (List·Memᴰ·not-nil h)
   lackings-all P (suc k) s each e h =
@@ -27,12 +28,15 @@ module _ (m : ℕ) (al : List (List ℕ)) where
       ]
 
   -- what holds of the economy of all, and of each without one, holds of each
-  pub economies-all : (P : Economy (List ℕ) → Type 0) → P (whole al) → ((i : ℕ) → Among m 1 i → P (lacking i (keep (lacks i) al))) →
+  pub economies-all : (P : Economy (List ℕ) → Type 0) → P (whole al) →
+      ((i : ℕ) → Among m 1 i → P (lacking i (keep (lacks i) al))) →
       (e : Economy (List ℕ)) → e ∈ economies m al → P e
-  economies-all P main each e h = elim (List·Memᴰ·cases-cons h) [ inl q ↦ subst P (sym q) main | inr l ↦ lackings-all P m 1 each e l ]
+  economies-all P main each e h =
+      elim (List·Memᴰ·cases-cons h) [ inl q ↦ subst P (sym q) main | inr l ↦ lackings-all P m 1 each e l ]
 
   -- the economies' allocations are those of all that nobody absent has a part in
-  pub economies-part : (share : ℕ → ℕ) → ((j : ℕ) → 1 ≤ share j) → (e : Economy (List ℕ)) → e ∈ economies m al → Part (market m share) al e
+  pub economies-part : (share : ℕ → ℕ) → ((j : ℕ) → 1 ≤ share j) → (e : Economy (List ℕ)) → e ∈ economies m al →
+      Part (market m share) al e
   economies-part share some =
       economies-all (Part (market m share) al) (record { fewer = λ a h. h; closed = λ a h _. h })
       (λ i r. record {

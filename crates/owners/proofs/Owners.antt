@@ -1,11 +1,11 @@
 -- Which owner lists there are (`allocation-in`, `allocation-from`), what a buyer holds in one (`bundle-lacks`,
--- `bundle-none`, `bundle-past`), and what is left of one when owners are dropped and their lots `given` away. Assumes
--- nothing.
+-- `bundle-none`, `bundle-past`), and what is left of one when owners are dropped and their lots `given` away.
 use mathlib.Core.Path.{_≡_, refl, sym, ap, subst, _∙_}
 use mathlib.Core.Logic.{_≢_, _⊎_, inl, inr}
 use mathlib.Core.Bool.{Bool, true, false, not, _&&_, and-false}
 use mathlib.Core.List.{List, [], _∷_}
-use mathlib.Core.List.{List·Memᴰ·head as here, List·Memᴰ·tail as there, List·Memᴰ·not-nil, List·Memᴰ·cases-cons, List·Memᴰ·eq-of-singleton}
+use mathlib.Core.List.{List·Memᴰ·head as here, List·Memᴰ·tail as there, List·Memᴰ·not-nil, List·Memᴰ·cases-cons}
+use mathlib.Core.List.{List·Memᴰ·eq-of-singleton}
 use mathlib.Core.List.{Memᴰ·cast, List·Memᴰ·append-cases, Memᴰ·append-left, Memᴰ·append-right}
 use Prim.Native.Nat.{ℕ, zero, suc, _+_, _≤_}
 use native.Mathlib.Omega.{arith}
@@ -26,13 +26,19 @@ owner-in o (there m) = there (owner-in o m)
 
 pub owner-from : (o : ℕ) {x : List ℕ} (al : List (List ℕ)) → x ∈ withOwner o al → (a : List ℕ) × (a ∈ al) × (x ≡ o ∷ a)
 owner-from o [] m = absurd (List·Memᴰ·not-nil m)
-owner-from o (a ∷ al) m = elim (List·Memᴰ·cases-cons m) [ inl e ↦ (a, here refl, e) | inr n ↦ let (b, k, e) = owner-from o al n in (b, there k, e) ]
+owner-from o (a ∷ al) m =
+    elim (List·Memᴰ·cases-cons m) [
+      | inl e ↦ (a, here refl, e)
+      | inr n ↦ let (b, k, e) = owner-from o al n in
+          (b, there k, e)
+    ]
 
 pub spread-in : {o : ℕ} {os : List ℕ} {a : List ℕ} {al : List (List ℕ)} → o ∈ os → a ∈ al → (o ∷ a) ∈ spread os al
 spread-in {a = a} (here {x = x} e) n = Memᴰ·append-left _ (Memᴰ·cast (ap (λ o. o ∷ a) e) (owner-in x n))
 spread-in {al = al} (there {x = x} m) n = Memᴰ·append-right (withOwner x al) (spread-in m n)
 
-pub spread-from : {x : List ℕ} (os : List ℕ) (al : List (List ℕ)) → x ∈ spread os al → (o : ℕ) × (a : List ℕ) × (o ∈ os) × (a ∈ al) × (x ≡ o ∷ a)
+pub spread-from : {x : List ℕ} (os : List ℕ) (al : List (List ℕ)) → x ∈ spread os al → (o : ℕ) × (a : List ℕ) × (o ∈ os)
+    × (a ∈ al) × (x ≡ o ∷ a)
 spread-from [] al m = absurd (List·Memᴰ·not-nil m)
 spread-from (o ∷ os) al m =
     elim (List·Memᴰ·append-cases (withOwner o al) m) [
@@ -41,13 +47,16 @@ spread-from (o ∷ os) al m =
     ]
 
 -- the lists of n owners among os
-pub allocation-in : (os : List ℕ) (n : ℕ) (a : List ℕ) → length a ≡ n → ((o : ℕ) → o ∈ a → o ∈ os) → a ∈ allocations os n
+pub allocation-in : (os : List ℕ) (n : ℕ) (a : List ℕ) → length a ≡ n → ((o : ℕ) → o ∈ a → o ∈ os) →
+    a ∈ allocations os n
 allocation-in os zero [] l h = here refl
 allocation-in os zero (o ∷ a) l h = absurd (omega arith)
 allocation-in os (suc n) [] l h = absurd (omega arith)
-allocation-in os (suc n) (o ∷ a) l h = spread-in (h o (here refl)) (allocation-in os n a (omega arith) (λ p m. h p (there m)))
+allocation-in os (suc n) (o ∷ a) l h =
+    spread-in (h o (here refl)) (allocation-in os n a (omega arith) (λ p m. h p (there m)))
 
-pub allocation-from : (os : List ℕ) (n : ℕ) {a : List ℕ} → a ∈ allocations os n → (length a ≡ n) × ((o : ℕ) → o ∈ a → o ∈ os)
+pub allocation-from : (os : List ℕ) (n : ℕ) {a : List ℕ} → a ∈ allocations os n → (length a ≡ n)
+    × ((o : ℕ) → o ∈ a → o ∈ os)
 allocation-from os zero m = rw (List·Memᴰ·eq-of-singleton m) (refl, λ o n. absurd (List·Memᴰ·not-nil n))
 allocation-from os (suc n) m =
     let (o, b, r, k, e) = spread-from os (allocations os n) m in
@@ -68,7 +77,8 @@ bundle-lacks share j i (o ∷ a) h =
     rw (ne-eqb o i p) (omega (arith, bundle-lacks share (suc j) i a q))
 
 -- who owns nothing of any share
-pub bundle-none : (share : ℕ → ℕ) → ((j : ℕ) → 1 ≤ share j) → (j i : ℕ) (a : List ℕ) → bundleFrom share j i a ≡ 0 → lacks i a ≡ true
+pub bundle-none : (share : ℕ → ℕ) → ((j : ℕ) → 1 ≤ share j) → (j i : ℕ) (a : List ℕ) → bundleFrom share j i a ≡ 0 →
+    lacks i a ≡ true
 bundle-none share some j i [] h = refl
 bundle-none share some j i (o ∷ a) h =
     by-test (eqb o i)
@@ -106,22 +116,26 @@ owner-given : (t : ℕ → Bool) (k o i : ℕ) → i ≢ k → eqb (pick (t o) o
 owner-given t k o i n =
     let other : eqb k i ≡ false = ne-eqb k i (λ q. n (sym q)) in
     by-test (eqb o i)
-    (λ e. let z = eqb-true o i e in by-test (t o) (λ h. rw (h, e, ap t (sym z) ∙ h)) (λ h. rw (h, ap t (sym z) ∙ h, other)))
+    (λ e. let z = eqb-true o i e in by-test (t o) (λ h. rw (h, e, ap t (sym z) ∙ h))
+    (λ h. rw (h, ap t (sym z) ∙ h, other)))
     (λ e. rw (e, and-false (t i)) (by-test (t o) (λ h. rw (h, e)) (λ h. rw (h, other))))
 
-pub bundle-given : (share : ℕ → ℕ) (t : ℕ → Bool) (k j i : ℕ) (a : List ℕ) → i ≢ k → bundleFrom share j i (given t k a) ≡ when (t i) (bundleFrom share j i a)
+pub bundle-given : (share : ℕ → ℕ) (t : ℕ → Bool) (k j i : ℕ) (a : List ℕ) → i ≢ k → bundleFrom share j i (given t k a)
+    ≡ when (t i) (bundleFrom share j i a)
 bundle-given share t k j i [] n = by-test (t i) (λ h. rw h) (λ h. rw h)
 bundle-given share t k j i (o ∷ a) n =
     rw (owner-given t k o i n, bundle-given share t k (suc j) i a n)
     (by-test (t i) (λ h. rw h) (λ h. rw h))
 
-pub given-in : (os : List ℕ) (n : ℕ) (t : ℕ → Bool) {k : ℕ} → k ∈ os → {a : List ℕ} → a ∈ allocations os n → given t k a ∈ allocations os n
+pub given-in : (os : List ℕ) (n : ℕ) (t : ℕ → Bool) {k : ℕ} → k ∈ os → {a : List ℕ} → a ∈ allocations os n →
+    given t k a ∈ allocations os n
 given-in os n t {k} one {a} h =
     let (l, owned) = allocation-from os n h in
     allocation-in os n (given t k a) (given-length t k a ∙ l)
     (λ o w. elim (given-from t k a w) [ inl z ↦ Memᴰ·cast z one | inr c ↦ owned o (c .0) ])
 
-pub given-lacks : (t : ℕ → Bool) (k i : ℕ) (a : List ℕ) → k ≢ i → (t i ≡ true → lacks i a ≡ true) → lacks i (given t k a) ≡ true
+pub given-lacks : (t : ℕ → Bool) (k i : ℕ) (a : List ℕ) → k ≢ i → (t i ≡ true → lacks i a ≡ true) →
+    lacks i (given t k a) ≡ true
 given-lacks t k i a z h =
     lacks-means i (given t k a) .1
     (λ o w e. elim (given-from t k a w) [
@@ -130,9 +144,11 @@ given-lacks t k i a z h =
     ])
 
 -- i left out, its lots with 0
-pub without-in : (os : List ℕ) (n i : ℕ) → 0 ∈ os → 0 ≢ i → {a : List ℕ} → a ∈ allocations os n → given (without i) 0 a ∈ keep (lacks i) (allocations os n)
+pub without-in : (os : List ℕ) (n i : ℕ) → 0 ∈ os → 0 ≢ i → {a : List ℕ} → a ∈ allocations os n →
+    given (without i) 0 a ∈ keep (lacks i) (allocations os n)
 without-in os n i nobody z {a} h =
-    keep-in (lacks i) (given-in os n (without i) nobody h) (given-lacks (without i) 0 i a z (λ e. fails e (ap not (eq-eqb i i refl))))
+    keep-in (lacks i) (given-in os n (without i) nobody h)
+    (given-lacks (without i) 0 i a z (λ e. fails e (ap not (eq-eqb i i refl))))
 
 -- all lots owned by one
 pub some-allocation : (os : List ℕ) (k : ℕ) → k ∈ os → (n : ℕ) → replicate n k ∈ allocations os n

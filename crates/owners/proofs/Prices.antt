@@ -25,8 +25,10 @@ use Rattle.owners.specs.Prices.{Seats, plain, zeros, price, payoff, best
 use Rattle.owners.specs.Prices.{read, raisedAt, raised}
 
 -- prices up to 65,535 are fair; and so are a sale's own
-pub small-fair : {A : Type 0} (M : Market A) (S : Seats) (all : ℕ) (v : Table) (ps : List ℕ) → ((k : ℕ) → getD ps k 0 ≤ 65535) → Fair S M all v ps
-small-fair M S all v ps small i r s h = by-test (eqb s 0) (λ e. rw e (omega arith)) (λ e. rw e (omega (arith, small (16 * S .seat i + s))))
+pub small-fair : {A : Type 0} (M : Market A) (S : Seats) (all : ℕ) (v : Table) (ps : List ℕ) →
+    ((k : ℕ) → getD ps k 0 ≤ 65535) → Fair S M all v ps
+small-fair M S all v ps small i r s h =
+    by-test (eqb s 0) (λ e. rw e (omega arith)) (λ e. rw e (omega (arith, small (16 * S .seat i + s))))
 
 -- a place of an absent buyer, of the empty bundle or of an absent one
 pub unread : (m all k : ℕ) → (m ≤ k / 16) ⊎ ((k % 16 ≡ 0) ⊎ (all ≤ k % 16)) → read (plain m) all k ≡ false
@@ -57,13 +59,16 @@ pub raised-long : (S : Seats) (all : ℕ) (v : Table) (set : ℕ → Bool) (ps :
 raised-long S all v set ps =
     tabulate-length (16 * S .rows) 0 (λ k. raisedAt S all v set ps k (k / 16) (k - 16 * (k / 16)))
 
-pub holds-fair : {A : Type 0} (M : Market A) (S : Seats) (all top : ℕ) (v : Table) (ps : List ℕ) (π : ℕ → ℕ) → Holds M S all top v ps π → Fair S M all v ps
+pub holds-fair : {A : Type 0} (M : Market A) (S : Seats) (all top : ℕ) (v : Table) (ps : List ℕ) (π : ℕ → ℕ) →
+    Holds M S all top v ps π → Fair S M all v ps
 holds-fair M S all top v ps π holds i r s h = omega (arith, holds .prices i r s h)
 
-module _ {A : Type 0} {M : Market A} {S : Seats} {bits all top : ℕ} {v : Table} (priced : Priced M S bits all top v) where
+module _ {A : Type 0} {M : Market A} {S : Seats} {bits all top : ℕ} {v : Table}
+    (priced : Priced M S bits all top v) where
   module _ (ps : List ℕ) (i : ℕ) (bidder : Bidder M i) where
     best-least : 65535 ≤ best S all v ps i
-    best-least = omega (arith, priced .free i bidder, most-upper (payoff S v ps i) (upTo-in all 0 {i = 0} (omega arith)))
+    best-least =
+        omega (arith, priced .free i bidder, most-upper (payoff S v ps i) (upTo-in all 0 {i = 0} (omega arith)))
 
     -- keen is who does not want the empty bundle
     pub keen-wants : quote S all v ps .keen i ≡ not (quote S all v ps .wants i 0)
@@ -72,13 +77,19 @@ module _ {A : Type 0} {M : Market A} {S : Seats} {bits all top : ℕ} {v : Table
         same-test _ _
         (λ e. wants .1 (λ z. omega (arith, priced .free i bidder, leb-means (suc 65535) (best S all v ps i) .0 e)))
         (λ e. leb-means (suc 65535) (best S all v ps i) .1 (let z = wants .0 e in
-        elim (ℕ-discrete (v i 0 + 65535 - 0) (best S all v ps i)) [ yes q ↦ absurd (z q) | no q ↦ omega (arith, best-least, priced .free i bidder) ]))
+        elim (ℕ-discrete (v i 0 + 65535 - 0) (best S all v ps i)) [
+          | yes q ↦ absurd (z q)
+          | no q ↦ omega
+              (arith, best-least, priced .free i bidder)
+        ]))
 
   -- at any prices that make no payoff less than -65,535
-  pub quote-answers : (ps : List ℕ) → Fair S M all v ps → Answers M (λ s. s < all) v (λ i. best S all v ps i - 65535) (quote S all v ps)
+  pub quote-answers : (ps : List ℕ) → Fair S M all v ps →
+      Answers M (λ s. s < all) v (λ i. best S all v ps i - 65535) (quote S all v ps)
   quote-answers ps fair =
       record {
-        covered = λ i r s h. omega (arith, fair i r s h, most-upper (payoff S v ps i) (upTo-in all 0 {i = s} (omega arith)));
+        covered =
+            λ i r s h. omega (arith, fair i r s h, most-upper (payoff S v ps i) (upTo-in all 0 {i = s} (omega arith)));
         reached = λ i r.
             let (s, h, e) = most-reached (payoff S v ps i) (upTo-in all 0 {i = 0} (omega arith)) in
             let below : s < all = omega (arith, upTo-from all 0 h) in
@@ -129,7 +140,8 @@ module _ {A : Type 0} {M : Market A} {S : Seats} {bits all top : ℕ} {v : Table
   raised-price set ps i s r l h =
       let (j, t, back) = priced .seated .sits i r in
       price-at (raised S all v set ps) i s l
-      ∙ tabulate-at (16 * S .rows) 0 (λ k. raisedAt S all v set ps k (k / 16) (k - 16 * (k / 16))) (16 * S .seat i + s) 0
+      ∙ tabulate-at (16 * S .rows) 0 (λ k. raisedAt S all v set ps k (k / 16) (k - 16 * (k / 16)))
+      (16 * S .seat i + s) 0
       (omega (arith, priced .seated .enough))
       ∙ rw (
         row (S .seat i) s (omega arith),
@@ -163,15 +175,20 @@ module _ {A : Type 0} {M : Market A} {S : Seats} {bits all top : ℕ} {v : Table
       by-test (eqb s 0)
       (λ e. rw e)
       (λ e. rw e
-      (getD-replicate (16 * S .rows) (16 * S .seat i + s) 0 0 (omega (arith, priced .seated .sits i r, priced .seated .enough))))
+      (getD-replicate (16 * S .rows) (16 * S .seat i + s) 0 0
+      (omega (arith, priced .seated .sits i r, priced .seated .enough))))
 
-  pub zeros-hold : ((i : ℕ) → Bidder M i → (s : ℕ) → s < all → v i s ≤ v i top) → Holds M S all top v (zeros S) (λ i. v i top)
-  zeros-hold topmost = record { modest = λ i r. omega arith; prices = λ i r s h. omega (arith, zero-price i s r h, topmost i r s h) }
+  pub zeros-hold : ((i : ℕ) → Bidder M i → (s : ℕ) → s < all → v i s ≤ v i top) →
+      Holds M S all top v (zeros S) (λ i. v i top)
+  zeros-hold topmost =
+      record { modest = λ i r. omega arith; prices = λ i r s h. omega (arith, zero-price i s r h, topmost i r s h) }
 
   -- the payoffs can be read off the prices of the bundle of all
-  pub reads-hold : (ps : List ℕ) (π : ℕ → ℕ) → Holds M S all top v ps π → Holds M S all top v ps (λ i. v i top - price S ps i top)
+  pub reads-hold : (ps : List ℕ) (π : ℕ → ℕ) → Holds M S all top v ps π →
+      Holds M S all top v ps (λ i. v i top - price S ps i top)
   reads-hold ps π holds =
       record {
         modest = λ i r. omega arith;
-        prices = λ i r s h. omega (arith, holds .modest i r, holds .prices i r top (priced .topped), holds .prices i r s h);
+        prices =
+            λ i r s h. omega (arith, holds .modest i r, holds .prices i r top (priced .topped), holds .prices i r s h);
       }

@@ -1,5 +1,5 @@
--- Owner lists that may leave lots unsold make sound economies (`sounds`), which a buyer can be left out of (`leaves`): what a buyer loses stays unsold.
--- Assumes that 0 is among the owners.
+-- Owner lists that may leave lots unsold make sound economies (`sounds`), which a buyer can be left out of (`leaves`):
+-- what a buyer loses stays unsold. Assumes that 0 is among the owners.
 use mathlib.Core.Path.{_≡_, refl, sym, _∙_}
 use mathlib.Core.Logic.{_≢_, inl}
 use mathlib.Core.Bool.{Bool, false}
@@ -16,16 +16,19 @@ use Rattle.theory.specs.Auction.{Economy, whole, lacking, Sound}
 use Rattle.theory.proofs.Tests.{fails}
 use Rattle.theory.proofs.Lists.{keep-in, keep-from}
 use Rattle.owners.specs.Owners.{allocations, bundleFrom, lacks, market, economies}
-use Rattle.owners.proofs.Owners.{given, bundle-lacks, bundle-given, given-in, given-lacks, without-in, some-allocation}
+use Rattle.owners.proofs.Owners.{given, bundle-lacks, bundle-given, given-in, given-lacks, without-in}
+use Rattle.owners.proofs.Owners.{some-allocation}
 use Rattle.owners.proofs.Economies.{economies-all}
 
 module _ (m n : ℕ) (os : List ℕ) (unsold : 0 ∈ os) (share : ℕ → ℕ) (top : ℕ) where
   abbrev al : List (List ℕ)
   al = allocations os n
 
-  closed-drops : (l : List (List ℕ)) → ((t : ℕ → Bool) (a : List ℕ) → a ∈ l → given t 0 a ∈ l) → Drops (market m share) (λ s u. s ≡ u) top l
+  closed-drops : (l : List (List ℕ)) → ((t : ℕ → Bool) (a : List ℕ) → a ∈ l → given t 0 a ∈ l) →
+      Drops (market m share) (λ s u. s ≡ u) top l
   closed-drops l closed a h t =
-      let left : (i : ℕ) → Bidder (market m share) i → bundleFrom share 0 i (given t 0 a) ≡ when (t i) (bundleFrom share 0 i a) =
+      let left : (i : ℕ) → Bidder (market m share) i → bundleFrom share 0 i (given t 0 a)
+      ≡ when (t i) (bundleFrom share 0 i a) =
       λ i r. bundle-given share t 0 0 i a (λ z. omega arith) in
       (given t 0 a, closed t a h, λ i r e. sym (rw e at (left i r)), λ i r e. inl (rw e at (left i r)))
 
@@ -48,11 +51,15 @@ module _ (m n : ℕ) (os : List ℕ) (unsold : 0 ∈ os) (share : ℕ → ℕ) (
         drops = closed-drops (keep (lacks i) al) (λ t c k.
             let (c-in, c-lacks) = keep-from (lacks i) al k in
             keep-in (lacks i) (given-in os n t unsold c-in) (given-lacks t 0 i c z (λ _. c-lacks)));
-        absent = λ c k j r p. rw (eqb-true j i (not-false (eqb j i) p)) (bundle-lacks share 0 i c (keep-from (lacks i) al k .1));
+        absent =
+            λ c k j r p. rw (eqb-true j i (not-false (eqb j i) p))
+            (bundle-lacks share 0 i c (keep-from (lacks i) al k .1));
       }
 
   pub sounds : (e : Economy (List ℕ)) → e ∈ economies m al → Sound (market m share) (λ s u. s ≡ u) top e
-  sounds = economies-all m al (Sound (market m share) (λ s u. s ≡ u) top) whole-sound (λ i r. lacking-sound i (λ z. omega arith))
+  sounds =
+      economies-all m al (Sound (market m share) (λ s u. s ≡ u) top) whole-sound
+      (λ i r. lacking-sound i (λ z. omega arith))
 
   pub leaves : (i : ℕ) → Bidder (market m share) i → Leaves (market m share) (λ s u. s ≡ u) i al (keep (lacks i) al)
   leaves i r a h = (

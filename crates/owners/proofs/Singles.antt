@@ -33,7 +33,8 @@ bundle-below : (j i : ℕ) (a : List ℕ) → bundleFrom single j i a + 2 ^ j �
 bundle-below j i [] = omega (arith, ap single (add-zero j))
 bundle-below j i (o ∷ a) =
     let e : j + suc (length a) ≡ suc j + length a = omega arith in
-    rw e (by-test (eqb o i) (λ p. rw p (omega (arith, bundle-below (suc j) i a))) (λ p. rw p (omega (arith, bundle-below (suc j) i a))))
+    rw e (by-test (eqb o i) (λ p. rw p (omega (arith, bundle-below (suc j) i a)))
+    (λ p. rw p (omega (arith, bundle-below (suc j) i a))))
 
 pub singles-below : (n i : ℕ) (a : List ℕ) → length a ≡ n → bundleFrom single 0 i a < 2 ^ n
 singles-below n i a l = omega (arith, bundle-below 0 i a, ap single (zero-add (length a) ∙ l))
@@ -86,20 +87,28 @@ module _ (m n : ℕ) (few : m ≤ 6) (short : n ≤ 4) (os : List ℕ) (unsold :
   pub singles-buyer : (i : ℕ) → Among m 1 i → Buyer X al i (keep (lacks i) al)
   singles-buyer i r =
       record {
-        leaving = record { bidder = r; leaves = leaves m n os unsold single (2 ^ n - 1) i r; fewer = λ a h. keep-from (lacks i) al h .0 };
+        leaving =
+            record {
+              bidder = r;
+              leaves = leaves m n os unsold single (2 ^ n - 1) i r;
+              fewer = λ a h. keep-from
+                  (lacks i) al h .0;
+            };
         others = lacking-in m al i r;
       }
 
   -- worths of which the empty bundle has none and all lots the most
   pub singles-worths : (v : Table) → ((i : ℕ) → Among m 1 i → v i 0 ≡ 0) →
       ((i : ℕ) → Among m 1 i → (s : ℕ) → s < 2 ^ n → v i s ≤ v i (2 ^ n - 1)) → Worths X (plain m) (2 ^ n) v
-  singles-worths v free topmost = record { proper = record { monotone = λ i r s u e. omega (arith, ap (v i) e); free = free }; topmost = topmost }
+  singles-worths v free topmost =
+      record { proper = record { monotone = λ i r s u e. omega (arith, ap (v i) e); free = free }; topmost = topmost }
 
 -- worths up to c
 pub worth-small : (ws : List ℕ) (c i s : ℕ) → AtMost c ws → worth ws i s ≤ c
 worth-small ws c i s h = by-test (eqb s 0) (λ e. rw e (omega arith)) (λ e. rw e (h (16 * (i - 1) + s)))
 
-pub limit-small : (m n : ℕ) → m ≤ 6 → (ws : List ℕ) → AtMost 9999 ws → limit (sale m n) (plain m) (2 ^ n) (worth ws) ≤ 59994
+pub limit-small : (m n : ℕ) → m ≤ 6 → (ws : List ℕ) → AtMost 9999 ws → limit (sale m n) (plain m) (2 ^ n) (worth ws)
+    ≤ 59994
 limit-small m n few ws small =
     omega (
       arith,

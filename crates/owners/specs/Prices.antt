@@ -1,6 +1,6 @@
--- Prices as one list, sixteen to a row, and the quote that bidders with worths v make of them, at any prices. Each bidder has a seat: its row,
--- and its bit in the number of a set. Offers `price`, `payoff`, `quote`, a round's raise (`raised`), and when a list `Holds` the prices of a
--- sale's payoffs.
+-- Prices as one list, sixteen to a row, and the quote that bidders with worths v make of them, at any prices. Each
+-- bidder has a seat: its row, and its bit in the number of a set. Offers `price`, `payoff`, `quote`, a round's raise
+-- (`raised`), and when a list `Holds` the prices of a sale's payoffs.
 use mathlib.Core.Path.{_≡_}
 use mathlib.Core.Bool.{Bool, true, _&&_, _||_}
 use mathlib.Core.List.{List}
@@ -23,7 +23,8 @@ pub record Seats : Type 0 where
 -- the bidders have the seats that are taken, all of them below `bits`
 pub record Seated (S : Seats) (many low bits : ℕ) : Type 0 where
   pub enough : bits ≤ S .rows
-  pub sits : (i : ℕ) → Among many low i → (S .seat i < bits) × (S .taken (S .seat i) ≡ true) × (S .sitter (S .seat i) ≡ i)
+  pub sits : (i : ℕ) → Among many low i → (S .seat i < bits) × (S .taken (S .seat i) ≡ true)
+      × (S .sitter (S .seat i) ≡ i)
   pub seats : (j : ℕ) → S .taken j ≡ true → Among many low (S .sitter j) × (S .seat (S .sitter j) ≡ j)
 
 -- how many bidders there are from `low` on: m buyers (low is 1), and the house (0)
@@ -96,7 +97,8 @@ module _ (S : Seats) where
   -- rule 4.11: the price at place k after a round; the place is that of row j and bundle s
   abbrev pub raisedAt : ℕ → Table → (ℕ → Bool) → List ℕ → ℕ → ℕ → ℕ → ℕ
   raisedAt all v set ps k j s =
-      getD ps k 0 + when (S .taken j && (leb 1 s && (ltb s all && (set (S .sitter j) && quote all v ps .wants (S .sitter j) s)))) 1
+      getD ps k 0 + when (S .taken j &&
+      (leb 1 s && (ltb s all && (set (S .sitter j) && quote all v ps .wants (S .sitter j) s)))) 1
 
   abbrev pub raised : ℕ → Table → (ℕ → Bool) → List ℕ → List ℕ
   raised all v set ps = tabulate (16 * S .rows) 0 (λ k. raisedAt all v set ps k (k / 16) (k - 16 * (k / 16)))
@@ -106,7 +108,8 @@ abbrev pub demandSet : ℕ → Quote → ℕ → ℕ
 demandSet all q i = sum all 0 (λ s. when (q .wants i s) (2 ^ s))
 
 -- the list holds the prices of the payoffs π: worths v, bundles below `all`, of which `top` is worth most
-pub record Holds {A : Type 0} (M : Market A) (S : Seats) (all top : ℕ) (v : Table) (ps : List ℕ) (π : ℕ → ℕ) : Type 0 where
+pub record Holds {A : Type 0} (M : Market A) (S : Seats) (all top : ℕ) (v : Table) (ps : List ℕ)
+    (π : ℕ → ℕ) : Type 0 where
   pub modest : (i : ℕ) → Bidder M i → π i ≤ v i top
   pub prices : (i : ℕ) → Bidder M i → (s : ℕ) → s < all → price S ps i s ≡ asks v π i s
 

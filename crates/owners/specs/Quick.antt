@@ -1,6 +1,7 @@
--- The rounds of a sale by coalition values. What a bidder has left is read off the prices of the bundle of all, the lowest undersupplied set
--- follows from it and the values, and the raise from it and the worths. Offers `quickChoice` and `quickStep`, which do what the definition's
--- `choose` and `step` do along a sale; and of m buyers the `roster` and the values of their sets.
+-- The rounds of a sale by coalition values. What a bidder has left is read off the prices of the bundle of all, the
+-- lowest undersupplied set follows from it and the values, and the raise from it and the worths. Offers `quickChoice`
+-- and `quickStep`, which do what the definition's `choose` and `step` do along a sale; and of m buyers the `roster` and
+-- the values of their sets.
 use mathlib.Core.Bool.{Bool, true, _&&_}
 use mathlib.Core.List.{List}
 use Prim.Native.Nat.{ℕ, zero, suc, _+_, _-_, _*_, _/_, _^_}

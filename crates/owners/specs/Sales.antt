@@ -1,6 +1,6 @@
--- A sale by a list of prices, for any auction whose bidders have seats, with bundles below `all`; its closing, and the direct way.
--- Offers the rounds (`sets`, `lastPrices`), the owners and payments of both ways, demands 2 and 3 as the records `Second` and `Third`, and `Hall`,
--- all that they ask of the auction.
+-- A sale by a list of prices, for any auction whose bidders have seats, with bundles below `all`; its closing, and the
+-- direct way. Offers the rounds (`sets`, `lastPrices`), the owners and payments of both ways, demands 2 and 3 as the
+-- records `Second` and `Third`, and `Hall`, all that they ask of the auction.
 use mathlib.Core.Path.{_≡_}
 use mathlib.Core.Bool.{true, false}
 use mathlib.Core.List.{List}
@@ -10,7 +10,8 @@ use Rattle.theory.specs.Sums.{Among}
 use Rattle.theory.specs.Lists.{_∈_, sumOver}
 use Rattle.theory.specs.Rounds.{choices, after}
 use Rattle.theory.specs.Markets.{Table, Bidder, sumOf, Exact, worthPay, pricePay}
-use Rattle.theory.specs.Auction.{Economy, whole, closing, direct, Ranked, Minimal, Auction, Ready, Proper, chosen, start, last, size}
+use Rattle.theory.specs.Auction.{Economy, whole, closing, direct, Ranked, Minimal, Auction, Ready, Proper, chosen}
+use Rattle.theory.specs.Auction.{start, last, size}
 use Rattle.theory.specs.Universal.{Universal, Bundled}
 use Rattle.theory.specs.Coalitions.{Part}
 use Rattle.owners.specs.Prices.{Seats, Seated, price, best, quote, read, raised}
@@ -61,7 +62,8 @@ module _ {A : Type 0} (X : Auction A) (S : Seats) (all : ℕ) where
     pub raises : sumOver (size X) (sets v ps f) + sumOf (X .market) (last X v π f) ≡ sumOf (X .market) π
     pub last-best : (i : ℕ) → Bidder (X .market) i → best S all v (lastPrices v ps f) i ≡ last X v π f i + 65535
 
-  -- the closing at the prices ps, and the direct way; `d` stands for an allocation where there is none, and al-i are those without i
+  -- the closing at the prices ps, and the direct way; `d` stands for an allocation where there is none, and al-i are
+  -- those without i
   module _ (al : List A) (d : A) where
     abbrev pub owners : Table → List ℕ → A
     owners v ps = closing (X .market) (quote S all v ps) al d

@@ -43,7 +43,11 @@ use Rattle.printed.specs.Printed.{Printable}
 seats-small : (c m : ℕ) (f : ℕ → ℕ) → m ≤ 6 → 0 < c → ((k : ℕ) → k < m → f (suc k) < c) →
     (k : ℕ) → getD (perBuyer m f) k 0 < c
 seats-small c m f few some h k =
-    elim (decLt k m) [ yes g ↦ rw (per-buyer-at m f k few g) (h k g) | no g ↦ rw (per-buyer-past m f k (omega arith)) some ]
+    elim (decLt k m) [
+      | yes g ↦ rw (per-buyer-at m f k few g) (h k g)
+      | no g ↦ rw
+          (per-buyer-past m f k (omega arith)) some
+    ]
 
 -- a settled sale
 module _ (b : List ℕ) (accepted : sheetFault b .number ≡ 0) where
@@ -75,7 +79,8 @@ module _ (b : List ℕ) (accepted : sheetFault b .number ≡ 0) where
       ))
 
   discount-small : (k : ℕ) → k < w .buyers → discountFor O ps (suc k) < 1000000
-  discount-small k h = omega (arith, sales.exact-discount O (regular b accepted) ps (suc k) (omega arith), revenue-small)
+  discount-small k h =
+      omega (arith, sales.exact-discount O (regular b accepted) ps (suc k) (omega arith), revenue-small)
 
   rounds-small : length (saleSets O) < 1000000
   rounds-small =

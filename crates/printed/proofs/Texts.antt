@@ -153,7 +153,8 @@ text-numbered b o long =
           first-no = told .first-no;
           range = elim (told .range) [
             | inl h ↦ inl h
-            | inr (yes-to, inl (_, nine, _)) ↦ absurd (never-nine b (length o) long (sym (sale-number b o o′ r sale) ∙ nine))
+            | inr (yes-to, inl (_, nine, _)) ↦ absurd
+                (never-nine b (length o) long (sym (sale-number b o o′ r sale) ∙ nine))
             | inr (yes-to, inr (_, none)) ↦ absurd none
           ];
           no-place = told .no-place;

@@ -1,5 +1,5 @@
 -- Members counted: of two sets (`common-is`), and of a set in an economy (`common-present`). Offers what a payoff
--- (`Lowered`), a gain (`Gained`) and a revenue (`Raised`) are after a round. Assumes nothing.
+-- (`Lowered`), a gain (`Gained`) and a revenue (`Raised`) are after a round.
 use mathlib.Core.Path.{_≡_, refl, sym, ap, _∙_}
 use mathlib.Core.Bool.{Bool, true, false, not, _&&_}
 use mathlib.Core.List.{List}

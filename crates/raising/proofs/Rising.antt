@@ -1,5 +1,5 @@
 -- Payoffs read off prices (`payoff-some`), and prices raised by payoffs, bundle by bundle (`row-more`) and buyer by
--- buyer (`rows-in`): so far they are those of a raise of fewer bundles, and of fewer buyers. Assumes nothing.
+-- buyer (`rows-in`): so far they are those of a raise of fewer bundles, and of fewer buyers.
 use mathlib.Core.Path.{_≡_, refl, sym, ap, _∙_}
 use mathlib.Core.Bool.{Bool, true, false, _&&_, and-false}
 use mathlib.Core.List.{List}
@@ -26,7 +26,8 @@ use Rattle.supply.specs.Supply.{owed}
 use Rattle.raising.specs.Raising.{raisedRow}
 
 -- the payoff of a bundle that is not empty
-pub payoff-some : (top : ℕ) (ws ps : List ℕ) (i w p : ℕ) → 1 ≤ top → w ≡ getD ws (16 * (i - 1) + top) 0 → p ≡ getD ps (16 * (i - 1) + top) 0 →
+pub payoff-some : (top : ℕ) (ws ps : List ℕ) (i w p : ℕ) → 1 ≤ top → w ≡ getD ws (16 * (i - 1) + top) 0 → p
+    ≡ getD ps (16 * (i - 1) + top) 0 →
     w - p ≡ left (plain 6) (worth ws) top ps i
 payoff-some top ws ps i w p h ew ep = rw (ew, ep, ne-eqb top 0 (λ z. omega arith))
 

@@ -28,7 +28,8 @@ fn payoff(worths: &[u16; 96], prices: &[u16; 96], i: usize, top: usize) -> u32
 // What each buyer has left; places of absent buyers hold 0.
 pub fn payoffs(worths: &[u16; 96], prices: &[u16; 96], buyers: usize, top: usize) -> [u32; 6]
     requires { ⌜ (buyers ≤ 6) × (1 ≤ top) × (top ≤ 15) × AtMost 9999 (now worths) ⌝ }
-    ensures { λ r. ⌜ AtMost 9999 r × ((i : ℕ) → 1 ≤ i → i ≤ buyers → owed r i ≡ left (plain 6) (worth (now (worths .entry))) top (now (prices .entry)) i) ⌝ }
+    ensures { λ r. ⌜ AtMost 9999 r × ((i : ℕ) → 1 ≤ i → i ≤ buyers →
+        owed r i ≡ left (plain 6) (worth (now (worths .entry))) top (now (prices .entry)) i) ⌝ }
 {
     let mut left = [0u32; 6];
     let mut i: usize = 0;

@@ -1,5 +1,6 @@
--- Rounds over any choice and step, while they go on (`Going`) and when they have ended (`Done`). Offers the begin (`begun`), one round more (`goes-on`), the
--- two ends (`settles`, `runs-out`), and what one round answers (`round-none`, `round-some`). Assumes nothing.
+-- Rounds over any choice and step, while they go on (`Going`) and when they have ended (`Done`). Offers the begin
+-- (`begun`), one round more (`goes-on`), the two ends (`settles`, `runs-out`), and what one round answers
+-- (`round-none`, `round-some`).
 use mathlib.Core.Path.{_≡_, refl, sym, ap, _∙_}
 use mathlib.Core.Bool.{true, false}
 use mathlib.Core.List.{List, [], _∷_, _++_, append-assoc, append-nil}
@@ -18,22 +19,26 @@ use Rattle.theory.specs.Lists.{over}
 use Rattle.rounds.specs.declared.State.{State}
 use Rattle.rounds.specs.Rounds.{Round}
 
-tail-set : (l last : List ℕ) (at b : ℕ) → at < length l → last ≡ set (take (length l - at) (drop at l)) 0 b → putMid at (length l - at) l last ≡ set l at b
+tail-set : (l last : List ℕ) (at b : ℕ) → at < length l → last ≡ set (take (length l - at) (drop at l)) 0 b →
+    putMid at (length l - at) l last ≡ set l at b
 tail-set l last at b h e =
-    rw e (set-mid-at at (length l - at) 0 l b (simp (length-take, length-drop) (omega arith)) ∙ ap (λ (n : ℕ). set l n b) (add-zero at))
+    rw e (set-mid-at at (length l - at) 0 l b (simp (length-take, length-drop) (omega arith))
+    ∙ ap (λ (n : ℕ). set l n b) (add-zero at))
 
 tail-same : (l last : List ℕ) (at : ℕ) → last ≡ take (length l - at) (drop at l) → putMid at (length l - at) l last ≡ l
 tail-same l last at e = rw e (put-same at (length l - at) l)
 
 -- what rounds have done that ended
-pub record Done (choose : List ℕ → ℕ) (step : ℕ → List ℕ → List ℕ) (limit : ℕ) (start o l : List ℕ) (r : State) : Type 0 where
+pub record Done (choose : List ℕ → ℕ) (step : ℕ → List ℕ → List ℕ) (limit : ℕ) (start o l : List ℕ)
+    (r : State) : Type 0 where
   pub prices : r .prices ≡ after step start (choices choose step limit start)
   pub rounds : r .rounds ≡ length (choices choose step limit start)
   pub settled : r .settled ≡ eqb (choose (after step start (choices choose step limit start))) 0
   pub bytes : l ≡ over (choices choose step limit start) o
 
 -- and rounds that go on: n of them so far, with the prices ps; `sets` are theirs, and the record was o and is l
-pub record Going (choose : List ℕ → ℕ) (step : ℕ → List ℕ → List ℕ) (limit : ℕ) (start o l ps : List ℕ) (n : ℕ) : Type 0 where
+pub record Going (choose : List ℕ → ℕ) (step : ℕ → List ℕ → List ℕ) (limit : ℕ) (start o l ps : List ℕ)
+    (n : ℕ) : Type 0 where
   pub sets : List ℕ
   pub count : length sets ≡ n
   pub few : n ≤ limit
@@ -61,7 +66,8 @@ module _
     {choose : List ℕ → ℕ} {step : ℕ → List ℕ → List ℕ} {limit : ℕ} {start o l ps : List ℕ} {n : ℕ}
     (g : Going choose step limit start o l ps n) where
   -- no choice is left
-  ends : choices choose step (limit - n) ps ≡ [] → (r : State) → r .prices ≡ ps → r .rounds ≡ n → r .settled ≡ eqb (choose ps) 0 →
+  ends : choices choose step (limit - n) ps ≡ [] → (r : State) → r .prices ≡ ps → r .rounds ≡ n → r .settled
+      ≡ eqb (choose ps) 0 →
       (l′ : List ℕ) → l′ ≡ l → Done choose step limit start o l′ r
   ends z r ep en es l′ el =
       let all : g .sets ≡ choices choose step limit start = sym (append-nil (g .sets)) ∙ (rw z at (g .rest)) in
@@ -74,14 +80,16 @@ module _
       }
 
   -- the limit is reached
-  pub runs-out : {r : State} (x : ℕ) → limit ≤ n → x ≡ choose ps → r .prices ≡ ps → r .rounds ≡ n → r .settled ≡ eqb x 0 →
+  pub runs-out : {r : State} (x : ℕ) → limit ≤ n → x ≡ choose ps → r .prices ≡ ps → r .rounds ≡ n → r .settled
+      ≡ eqb x 0 →
       Done choose step limit start o l r
   runs-out {r} x h ex ep en es =
       let k : limit - n ≡ 0 = omega arith in
       ends (ap (λ k. choices choose step k ps) k) r ep en (es ∙ ap (λ y. eqb y 0) ex) l refl
 
   -- one round more, that was lent the record from n on and left `end` there
-  module _ (h : n < limit) (f : limit ≤ length o) {end : List ℕ} {r : State} (d : Round choose step ps n (take (length l - n) (drop n l)) end r) where
+  module _ (h : n < limit) (f : limit ≤ length o) {end : List ℕ} {r : State}
+      (d : Round choose step ps n (take (length l - n) (drop n l)) end r) where
     left : limit - n ≡ suc (limit - (n + 1))
     left = omega arith
 
@@ -94,7 +102,8 @@ module _
         let p : r .prices ≡ step (choose ps - 1) ps = rw v at (d .prices) in
         let e : putMid n (length l - n) l end ≡ set l n (choose ps - 1) =
         tail-set l end n (choose ps - 1) (omega (arith, g .same)) (rw v at (d .bytes)) in
-        let more : choices choose step (limit - n) ps ≡ (choose ps - 1) ∷ choices choose step (limit - (n + 1)) (step (choose ps - 1) ps) =
+        let more : choices choose step (limit - n) ps
+        ≡ (choose ps - 1) ∷ choices choose step (limit - (n + 1)) (step (choose ps - 1) ps) =
         ap (λ k. choices choose step k ps) left
         ∙ ap (λ y. on y [] (λ x. x ∷ choices choose step (limit - (n + 1)) (step x ps))) x in
         record {
@@ -117,7 +126,8 @@ module _
         let none : choices choose step (limit - n) ps ≡ [] =
         ap (λ k. choices choose step k ps) left
         ∙ ap (λ y. on y [] (λ x. x ∷ choices choose step (limit - (n + 1)) (step x ps))) (eqb-true (choose ps) 0 v) in
-        ends none r (rw v at (d .prices)) (rw v at (d .rounds)) (d .settled) (putMid n (length l - n) l end) (tail-same l end n (rw v at (d .bytes)))
+        ends none r (rw v at (d .prices)) (rw v at (d .rounds)) (d .settled) (putMid n (length l - n) l end)
+        (tail-same l end n (rw v at (d .bytes)))
 
     -- the record keeps its length
     pub kept : length (putMid n (length l - n) l end) ≡ length o
@@ -128,7 +138,8 @@ module _
         ∙ length-set l n (choose ps - 1) ∙ g .same)
 
 -- a round that finds no set, and one that finds one
-module _ (choose : List ℕ → ℕ) (step : ℕ → List ℕ → List ℕ) (ps : List ℕ) (n : ℕ) (o : List ℕ) (x : ℕ) (e : x ≡ choose ps) where
+module _ (choose : List ℕ → ℕ) (step : ℕ → List ℕ → List ℕ) (ps : List ℕ) (n : ℕ) (o : List ℕ) (x : ℕ)
+    (e : x ≡ choose ps) where
   pub round-none : x ≡ 0 → Round choose step ps n o o (record { prices = ps; rounds = n; settled = true })
   round-none z =
       let v : eqb (choose ps) 0 ≡ true = eq-eqb (choose ps) 0 (sym e ∙ z) in

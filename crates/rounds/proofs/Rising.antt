@@ -1,5 +1,5 @@
 -- Equal payoffs give equal answers (`chosen-at`, `stepped-at`), a raise adds at most 1 (`step-small`), and it takes 1
--- from what each member has left (`left-step`). Assumes nothing.
+-- from what each member has left (`left-step`).
 use mathlib.Core.Path.{_≡_, refl, ap, _∙_}
 use mathlib.Core.Bool.{Bool, true, false, _&&_}
 use mathlib.Core.List.{List}
@@ -24,16 +24,20 @@ use Rattle.raising.proofs.Rising.{raised-small}
 use Rattle.rounds.specs.Rounds.{lowestAt, stepAt}
 
 -- payoffs that are the same for the buyers
-module _ (m top : ℕ) (ws ps r : List ℕ) (same : (i : ℕ) → 1 ≤ i → i ≤ m → owed r i ≡ left (plain 6) (worth ws) top ps i) where
+module _ (m top : ℕ) (ws ps r : List ℕ)
+    (same : (i : ℕ) → 1 ≤ i → i ≤ m → owed r i ≡ left (plain 6) (worth ws) top ps i) where
   owed-same : (i : ℕ) → Among m 1 i → owed r i ≡ left (plain 6) (worth ws) top ps i
   owed-same i q = same i (omega arith) (omega arith)
 
-  pub chosen-at : (values : List ℕ) (x : ℕ) → x ≡ lowestBy (roster m) shift (at values) (owed r) → x ≡ lowestAt m top ws values ps
+  pub chosen-at : (values : List ℕ) (x : ℕ) → x ≡ lowestBy (roster m) shift (at values) (owed r) → x
+      ≡ lowestAt m top ws values ps
   unfolding lowestAt
-  chosen-at values x e = e ∙ lowest-same (roster m) shift (at values) (owed r) (left (plain m) (worth ws) top ps) owed-same
+  chosen-at values x e =
+      e ∙ lowest-same (roster m) shift (at values) (owed r) (left (plain m) (worth ws) top ps) owed-same
 
   rising-same : (all x j s : ℕ) →
-      rising (plain m) all (worth ws) (member x) (owed r) j s ≡ rising (plain m) all (worth ws) (member x) (left (plain m) (worth ws) top ps) j s
+      rising (plain m) all (worth ws) (member x) (owed r) j s
+      ≡ rising (plain m) all (worth ws) (member x) (left (plain m) (worth ws) top ps) j s
   rising-same all x j s = by-test (ltb j m) (λ e. rw (e, owed-same (suc j) (omega (arith, ltb-true j m e)))) (λ e. rw e)
 
   pub stepped-at : (all x : ℕ) (qs : List ℕ) → qs ≡ raisedBy (plain m) all (worth ws) (member x) (owed r) ps →

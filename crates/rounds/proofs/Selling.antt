@@ -1,5 +1,5 @@
--- The rounds by coalition values are the sale's: what they did (`Done`) is what `Sold` says. Assumes what `Opens` says of the worths, and a table of the
--- values.
+-- The rounds by coalition values are the sale's: what they did (`Done`) is what `Sold` says. Assumes what `Opens` says
+-- of the worths, and a table of the values.
 use mathlib.Core.Path.{_≡_, refl, sym, ap, subst, _∙_}
 use mathlib.Core.List.{List}
 use Prim.Native.Nat.{ℕ, _-_, _^_, _≤_}
@@ -78,7 +78,8 @@ pub record Known (m all : ℕ) (ws values : List ℕ) : Type 0 where
   pub totals : AtMost 59994 values
 
 -- `all` is the number of bundles
-pub known : {m n f all : ℕ} {ws values o : List ℕ} → Opens m n ws f o → Valued m n ws values → all ≡ 2 ^ n → Known m all ws values
+pub known : {m n f all : ℕ} {ws values o : List ℕ} → Opens m n ws f o → Valued m n ws values → all ≡ 2 ^ n →
+    Known m all ws values
 known {n = n} opens valued e =
     record {
       few = opens .few-buyers;
@@ -120,15 +121,18 @@ module _ (m n f : ℕ) (ws values o : List ℕ) (opens : Opens m n ws f o) (valu
       let hall = good .hall in
       let worths = good .worths in
       let found : Values (sale m n) (worth ws) al (at values) =
-      values-same (sale m n) (worth ws) al (at values) (valueOf m n (worth ws)) (λ k _. valued .is k) (walk-values m n (worth ws) (2 ^ n - 1)) in
-      let wide : limit (sale m n) (plain m) (2 ^ n) (worth ws) ≤ shift = omega (arith, limit-small m n (opens .few-buyers) ws (opens .small)) in
+      values-same (sale m n) (worth ws) al (at values) (valueOf m n (worth ws)) (λ k _. valued .is k)
+      (walk-values m n (worth ws) (2 ^ n - 1)) in
+      let wide : limit (sale m n) (plain m) (2 ^ n) (worth ws)
+      ≤ shift = omega (arith, limit-small m n (opens .few-buyers) ws (opens .small)) in
       subst Agrees (roster-is m al single (2 ^ n - 1)) (
         quick-rounds (sale m n) (plain m) (2 ^ n) m al hall (worth ws) worths (at values) found shift wide f,
         quick-last (sale m n) (plain m) (2 ^ n) m al hall (worth ws) worths (at values) found shift wide f,
         quick-settled (sale m n) (plain m) (2 ^ n) m al hall (worth ws) worths (at values) found shift wide f,
       )
 
-pub sold : {m n f all : ℕ} {ws values o l : List ℕ} {r : State} → Opens m n ws f o → Valued m n ws values → all ≡ 2 ^ n →
+pub sold : {m n f all : ℕ} {ws values o l : List ℕ} {r : State} → Opens m n ws f o → Valued m n ws values → all
+    ≡ 2 ^ n →
     Done (lowestAt m (all - 1) ws values) (stepAt m all ws) f zeros o l r → Sold (lotsAmong m n ws) f o l r
 unfolding Agrees lowestAt zeros startPrices setsFrom pricesFrom
 sold {m} {n} {f} {ws = ws} {values} {o} opens valued e done =

@@ -1,5 +1,5 @@
 -- A round by what is kept: where it finds no set (`turn-none`), and where it takes one (`turn-some`). Its numbers are
--- small (`kept-small`). Assumes nothing.
+-- small (`kept-small`).
 use mathlib.Core.Path.{_≡_, sym, ap, _∙_}
 use mathlib.Core.Bool.{true, false}
 use mathlib.Core.List.{List}

@@ -1,6 +1,6 @@
 -- A round and a sale as the code takes them. Offers `lowestAt` and `stepAt`, the choice and the raise by coalition
--- values, what is kept from round to round (`KeptAt`), and what the functions ask (`Ready`, `Small`, `Opens`) and answer
--- (`Round`, `TurnAt`, `Sold`); `Sold` is by the definition's rounds alone.
+-- values, what is kept from round to round (`KeptAt`), and what the functions ask (`Ready`, `Small`, `Opens`) and
+-- answer (`Round`, `TurnAt`, `Sold`); `Sold` is by the definition's rounds alone.
 use mathlib.Core.Path.{_≡_}
 use mathlib.Core.List.{List}
 use Prim.Native.Nat.{ℕ, _+_, _-_, _^_, _≤_}
@@ -23,7 +23,8 @@ use Rattle.supply.specs.Supply.{shift, at, owed, Subsets, Keeps, SmallGains, Sm
 unfoldable pub zeros : List ℕ
 zeros = replicate 96 0
 
--- 1 more than the number of the lowest undersupplied set at the prices ps, by the values; `top` is the bundle of all lots
+-- 1 more than the number of the lowest undersupplied set at the prices ps, by the values; `top` is the bundle of all
+-- lots
 unfoldable pub lowestAt : ℕ → ℕ → List ℕ → List ℕ → List ℕ → ℕ
 lowestAt m top ws values ps = lowestBy (roster m) shift (at values) (left (plain m) (worth ws) top ps)
 
@@ -31,9 +32,10 @@ lowestAt m top ws values ps = lowestBy (roster m) shift (at values) (left (plain
 abbrev pub stepAt : ℕ → ℕ → List ℕ → ℕ → List ℕ → List ℕ
 stepAt m all ws x ps = raisedBy (plain m) all (worth ws) (member x) (left (plain m) (worth ws) (all - 1) ps) ps
 
--- a round from prices ps, after n rounds, with the rest of the record before and after it: where no set is undersupplied nothing changes, else the
--- set's number is the next byte, and the prices rise
-pub record Round (choose : List ℕ → ℕ) (step : ℕ → List ℕ → List ℕ) (ps : List ℕ) (n : ℕ) (o o′ : List ℕ) (r : State) : Type 0 where
+-- a round from prices ps, after n rounds, with the rest of the record before and after it: where no set is
+-- undersupplied nothing changes, else the set's number is the next byte, and the prices rise
+pub record Round (choose : List ℕ → ℕ) (step : ℕ → List ℕ → List ℕ) (ps : List ℕ) (n : ℕ) (o o′ : List ℕ)
+    (r : State) : Type 0 where
   pub prices : r .prices ≡ pick (eqb (choose ps) 0) ps (step (choose ps - 1) ps)
   pub rounds : r .rounds ≡ pick (eqb (choose ps) 0) n (n + 1)
   pub settled : r .settled ≡ eqb (choose ps) 0
@@ -41,7 +43,8 @@ pub record Round (choose : List ℕ → ℕ) (step : ℕ → List ℕ → List �
 
 -- the round of a sale of bundles below `all`, in a state
 abbrev pub RoundAt : ℕ → ℕ → List ℕ → List ℕ → State → List ℕ → List ℕ → State → Type 0
-RoundAt m all ws values s o o′ r = Round (lowestAt m (all - 1) ws values) (stepAt m all ws) (s .prices) (s .rounds) o o′ r
+RoundAt m all ws values s o o′ r =
+    Round (lowestAt m (all - 1) ws values) (stepAt m all ws) (s .prices) (s .rounds) o o′ r
 
 -- what a sale keeps from round to round: what each buyer has left, the gains of the sets, the revenues of the economies
 pub record Tables : Type 0 where

@@ -1,6 +1,6 @@
 -- A sale's number and place (`sale-number`, `sale-place`), one that accepts (`sale-open`), and one that refuses
 -- (`sale-closed`); and of a demand answer the same (`demand-number`, `demand-place`, `demand-open`, `demand-closed`).
--- Assumes nothing.
+--
 use mathlib.Core.Path.{_≡_, refl, sym, ap, _∙_}
 use mathlib.Core.Logic.{_≢_}
 use mathlib.Core.List.{List}
@@ -79,7 +79,9 @@ module _ (b o o′ : List ℕ) (r : Sale) (says : SaleSays b o o′ r) where
       record {
         accepted = accepted;
         room = leb-true (roundLimit (offerOf b)) (length o) room;
-        answer = sale-told ∙ told-yes (saleForm b) (saleFault b (length o)) (told-number (saleForm b) (saleFault b (length o)) ∙ none);
+        answer =
+            sale-told ∙ told-yes (saleForm b) (saleFault b (length o))
+            (told-number (saleForm b) (saleFault b (length o)) ∙ none);
         bytes = says .bytes ∙ rw (eq-eqb (saleFault b (length o) .number) 0 none) refl;
       }
 

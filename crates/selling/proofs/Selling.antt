@@ -49,7 +49,8 @@ sold-settled m n ws l o o′ f all opens words bundles ef s sold c closes a ea =
     (rw (ea, ec, sold .prices, sold .rounds, ef) refl, sold .bytes ∙ ap (λ f. over (setsFrom O (startPrices O) f) o) ef)
 
 module _ (b : List ℕ) (r : Worths) (e : r ≡ worthsRead b) (o : List ℕ) where
-  pub sale-refused : (r .number ≡ 0 → ⊥) → (s : Sale) → s ≡ refusedSale (fault (r .number) (r .place)) → SaleSays b o o s
+  pub sale-refused : (r .number ≡ 0 → ⊥) → (s : Sale) → s ≡ refusedSale (fault (r .number) (r .place)) →
+      SaleSays b o o s
   unfolding saleAnswer saleRecord
   sale-refused h s q =
       let no = sheet-no b r e h in
@@ -101,7 +102,8 @@ module _ (b : List ℕ) (r : Worths) (e : r ≡ worthsRead b) (o : List ℕ) whe
               short = omega arith;
             }
 
-        pub sale-settled : (a : Sale) (o′ : List ℕ) → (a ≡ settledSale O) × (o′ ≡ over (saleSets O) o) → SaleSays b o o′ a
+        pub sale-settled : (a : Sale) (o′ : List ℕ) → (a ≡ settledSale O) × (o′ ≡ over (saleSets O) o) →
+            SaleSays b o o′ a
         unfolding saleAnswer saleRecord
         sale-settled a o′ (ea, eo) =
             let yes = sheet-yes b r e z in

@@ -1,6 +1,6 @@
 -- The lowest undersupplied set by coalition values, step by step: payoffs of a set (`pay-in`), the greatest gain
 -- (`best-rises`), the sets that are supplied in each economy by one set (`joins-more`) and by all (`scan-more`) and in
--- all economies (`every-more`), the keen buyers (`keen-in`). `words-lowest` puts the steps together. Assumes nothing.
+-- all economies (`every-more`), the keen buyers (`keen-in`). `words-lowest` puts the steps together.
 use mathlib.Core.Path.{_≡_, refl, sym, ap, _∙_}
 use mathlib.Core.Bool.{Bool, true, false, not, _&&_, _||_, and-false, or-false}
 use mathlib.Core.List.{List}
@@ -49,17 +49,20 @@ module _ (m : ℕ) (gs : List ℕ) (e k best best′ : ℕ) where
   abbrev counted : ℕ
   counted = when (inside (roster m) (presentIn e) k) (at gs k)
 
-  pub best-rises : best < at gs k → (w : Bool) → w ≡ inside (roster m) (presentIn e) k → w ≡ true → best′ ≡ at gs k → best′ ≡ max best counted
+  pub best-rises : best < at gs k → (w : Bool) → w ≡ inside (roster m) (presentIn e) k → w ≡ true → best′ ≡ at gs k →
+      best′ ≡ max best counted
   best-rises h w ew p eb = let q : inside (roster m) (presentIn e) k ≡ true = sym ew ∙ p in rw q (omega arith)
 
-  pub best-outside : (w : Bool) → w ≡ inside (roster m) (presentIn e) k → w ≡ false → best′ ≡ best → best′ ≡ max best counted
+  pub best-outside : (w : Bool) → w ≡ inside (roster m) (presentIn e) k → w ≡ false → best′ ≡ best → best′
+      ≡ max best counted
   best-outside w ew p eb = let q : inside (roster m) (presentIn e) k ≡ false = sym ew ∙ p in rw q (omega arith)
 
   pub best-stays : at gs k ≤ best → best′ ≡ best → best′ ≡ max best counted
   best-stays h eb = by-test (inside (roster m) (presentIn e) k) (λ q. rw q (omega arith)) (λ q. rw q (omega arith))
 
 -- the sets that are supplied in economy e, with those that set k covers
-pub reach-start : (m sets n : ℕ) (t : ℕ → Bool) → sets ≡ 2 ^ m → (bit n 0 || some t (upTo (sets - 0) 0)) ≡ some t (upTo (2 ^ m) 0)
+pub reach-start : (m sets n : ℕ) (t : ℕ → Bool) → sets ≡ 2 ^ m → (bit n 0 || some t (upTo (sets - 0) 0))
+    ≡ some t (upTo (2 ^ m) 0)
 reach-start m sets n t e = rw (bit-zero n, sub-zero, e)
 
 and-yes : (x : Bool) → (x && true) ≡ x
@@ -155,7 +158,8 @@ under-more rs e least least′ h a b j l =
     elim (ℕ-discrete j e) [ yes q ↦ omega (arith, ap (at rs) q) | no q ↦ omega (arith, h j (omega arith)) ]
 
 -- and in every economy
-pub every-start : (n m : ℕ) (t : ℕ → Bool) → n < 64 → (bit n 18446744073709551615 && every (m + 1 - 0) 0 t) ≡ every (m + 1) 0 t
+pub every-start : (n m : ℕ) (t : ℕ → Bool) → n < 64 → (bit n 18446744073709551615 && every (m + 1 - 0) 0 t)
+    ≡ every (m + 1) 0 t
 every-start n m t h = rw (bit-ones n h, sub-zero)
 
 pub every-more : (n word s word′ : ℕ) (x : Bool) → bit n s ≡ x → word′ ≡ bitAnd word s → bit n word′ ≡ (bit n word && x)
@@ -165,7 +169,8 @@ every-more n word s word′ x es e = rw (e, bit-and n word s, es)
 abbrev pub keen : List ℕ → ℕ → Bool
 keen ps i = leb 1 (owed ps i)
 
-module _ (m i set : ℕ) (ps : List ℕ) (lo : 1 ≤ i) (hi : i ≤ m) (e : set ≡ number (m - i) (suc i) (keen ps)) (set′ : ℕ) where
+module _ (m i set : ℕ) (ps : List ℕ) (lo : 1 ≤ i) (hi : i ≤ m) (e : set ≡ number (m - i) (suc i) (keen ps))
+    (set′ : ℕ) where
   pub keen-in : 1 ≤ owed ps i → set′ ≡ 2 * set + 1 → set′ ≡ number (m - (i - 1)) (suc (i - 1)) (keen ps)
   keen-in h es = omega (arith, rw (le-leb 1 (owed ps i) h) at (number-down m i set (keen ps) lo hi e))
 

@@ -12,7 +12,8 @@ payments-requires c κs =
     let s = g .before .before .before .before in (
       s .pre .1,
       buyers-fit (s .args .low) _ (s .pre .4),
-      greatest-small (s .args .buyers) _ (g .greatest-totals .result) _ (g .greatest-totals .ensures .0) (g .greatest-totals .ensures .1),
+      greatest-small (s .args .buyers) _ (g .greatest-totals .result) _ (g .greatest-totals .ensures .0)
+          (g .greatest-totals .ensures .1),
     )
 
 returns : tie.Need-returns

@@ -6,14 +6,8 @@ use Rattle.fields.proofs.Scan.{field-read}
 use Rattle.fields.proofs.field_good.Statement.{statement}
 use Rattle.fields.proofs.field_good.Tie as tie
 
-read-field-requires : tie.Need-read-field-requires
-read-field-requires c κs = search needs
-
 enum-told : tie.Need-enum-told
 enum-told c = search needs
-
-enum-told-2 : tie.Need-enum-told-2
-enum-told-2 c = search needs
 
 returns : tie.Need-returns
 returns c =
@@ -28,4 +22,4 @@ returns-2 c =
     (c .enum-told2 .given .1)))
 
 pub field-good-spec : {M : Type 1} → statement M
-field-good-spec = tie.close (tie.spec read-field-requires enum-told enum-told-2 returns returns-2)
+field-good-spec = tie.close (tie.spec (λ c κs. search needs) enum-told (λ c. search needs) returns returns-2)

@@ -6,12 +6,6 @@ use Rattle.fields.proofs.Scan.{field-read}
 use Rattle.fields.proofs.field_number.Statement.{statement}
 use Rattle.fields.proofs.field_number.Tie as tie
 
-read-field-requires : tie.Need-read-field-requires
-read-field-requires c κs = search needs
-
-enum-known-f : tie.Need-enum-known-f
-enum-known-f c = search needs
-
 enum-told : tie.Need-enum-told
 enum-told c = search needs
 
@@ -29,4 +23,4 @@ returns-2 c =
 
 pub field-number-spec : {M : Type 1} → statement M
 field-number-spec =
-    tie.close (tie.spec read-field-requires enum-known-f enum-told returns returns-2)
+    tie.close (tie.spec (λ c κs. search needs) (λ c. search needs) enum-told returns returns-2)

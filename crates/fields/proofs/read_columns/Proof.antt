@@ -24,15 +24,6 @@ abbrev μ-loop : tie.MeasureT-loop
 loop-holds : tie.Need-loop-holds Inv-loop μ-loop
 loop-holds c = (omega arith, so-far-none (take 6 (drop (c .before .args .at) (c .before .args .sheet .now))))
 
-add-b : tie.Need-add-b Inv-loop μ-loop
-add-b c = omega arith
-
-shared-slice-read-b : tie.Need-shared-slice-read-b Inv-loop μ-loop
-shared-slice-read-b c = omega arith
-
-add-breaks : tie.Need-add-breaks Inv-loop μ-loop
-add-breaks c = omega arith
-
 -- in a turn, after the match
 module _ (j : tie.At-match-came Inv-loop μ-loop) where
   abbrev sheet : List ℕ
@@ -99,20 +90,11 @@ digit e =
 sub-wide : tie.Need-sub-wide Inv-loop μ-loop
 sub-wide c = omega (arith, digit c)
 
-wide-requires : tie.Need-wide-requires Inv-loop μ-loop
-wide-requires c κs = search needs
-
 mul-value : tie.Need-mul-value Inv-loop μ-loop
 mul-value c = omega (arith, digit (c .before), small (c .before .before .before))
 
 add-value : tie.Need-add-value Inv-loop μ-loop
 add-value c = omega (arith, digit (c .before), small (c .before .before .before))
-
-add-k : tie.Need-add-k Inv-loop μ-loop
-add-k c = omega arith
-
-loop-less : tie.Need-loop-less Inv-loop μ-loop
-loop-less c = omega arith
 
 loop-again : tie.Need-loop-again Inv-loop μ-loop
 loop-again c =
@@ -141,19 +123,5 @@ returns-2 c =
 pub read-columns-spec : {M : Type 1} → statement M
 read-columns-spec =
     tie.close
-    (tie.spec
-    Inv-loop
-    μ-loop
-    loop-holds
-    add-b
-    shared-slice-read-b
-    add-breaks
-    returns
-    sub-wide
-    wide-requires
-    mul-value
-    add-value
-    add-k
-    loop-less
-    loop-again
-    returns-2)
+    (tie.spec Inv-loop μ-loop loop-holds (λ c. omega arith) (λ c. omega arith) (λ c. omega arith) returns sub-wide
+    (λ c κs. search needs) mul-value add-value (λ c. omega arith) (λ c. omega arith) loop-again returns-2)

@@ -5,12 +5,6 @@ use Rattle.fields.proofs.Scan.{six-left, fewer-left}
 use Rattle.fields.proofs.read_field.Statement.{statement}
 use Rattle.fields.proofs.read_field.Tie as tie
 
-add-t7 : tie.Need-add-t7
-add-t7 c = search needs
-
-scan-columns-requires : tie.Need-scan-columns-requires
-scan-columns-requires c κs = search needs
-
 returns : tie.Need-returns
 returns c =
     let z = c .before .before .before .before .args in
@@ -23,4 +17,4 @@ returns-3 : tie.Need-returns-3
 returns-3 c = let z = c .before .before .args in fewer-left (z .sheet .now) (z .at) (omega arith)
 
 pub read-field-spec : {M : Type 1} → statement M
-read-field-spec = tie.close (tie.spec add-t7 scan-columns-requires returns returns-2 returns-3)
+read-field-spec = tie.close (tie.spec (λ c. search needs) (λ c κs. search needs) returns returns-2 returns-3)

@@ -11,9 +11,6 @@ use Rattle.fields.proofs.Columns.{field-running}
 use Rattle.fields.proofs.scan_columns.Statement.{statement}
 use Rattle.fields.proofs.scan_columns.Tie as tie
 
-read-columns-requires : tie.Need-read-columns-requires
-read-columns-requires c κs = search needs
-
 module _ (e : tie.After-read-columns) where
   field :
       let z = e .before .before .args in
@@ -35,4 +32,4 @@ returns-3 : tie.Need-returns-3
 returns-3 c = sym (rw (c .before .if1 .left, c .if2 .left) at (field (c .before .before)))
 
 pub scan-columns-spec : {M : Type 1} → statement M
-scan-columns-spec = tie.close (tie.spec read-columns-requires returns returns-2 returns-3)
+scan-columns-spec = tie.close (tie.spec (λ c κs. search needs) returns returns-2 returns-3)

@@ -25,9 +25,6 @@ Inv-loop question sheet numbers m n size places k₀ k =
 abbrev μ-loop : tie.MeasureT-loop
 μ-loop question sheet numbers m n size places k₀ k = places - k
 
-bundles-requires : tie.Need-bundles-requires Inv-loop μ-loop
-bundles-requires c κs = omega arith
-
 mul-places : tie.Need-mul-places Inv-loop μ-loop
 mul-places c =
     omega (arith, product-small (c .before .before .args .m) (c .bundles .result) 6 16 (omega arith) (omega arith))
@@ -79,9 +76,6 @@ wrong-at-requires c κs = (omega arith, line c, place c)
 offset-of-requires : tie.Need-offset-of-requires Inv-loop μ-loop
 offset-of-requires c κs = let i = c .before .before in (omega arith, omega (arith, line i), omega (arith, place i))
 
-cast-t14 : tie.Need-cast-t14 Inv-loop μ-loop
-cast-t14 c = omega arith
-
 returns : tie.Need-returns Inv-loop μ-loop
 unfolding firstWrong
 returns c =
@@ -96,9 +90,6 @@ returns c =
 
 add-k : tie.Need-add-k Inv-loop μ-loop
 add-k c = omega (arith, few (c .before .before))
-
-loop-less : tie.Need-loop-less Inv-loop μ-loop
-loop-less c = omega arith
 
 loop-again : tie.Need-loop-again Inv-loop μ-loop
 loop-again c =
@@ -127,19 +118,5 @@ returns-2 c =
 pub ask-each-spec : {M : Type 1} → statement M
 ask-each-spec =
     tie.close
-    (tie.spec
-    Inv-loop
-    μ-loop
-    bundles-requires
-    mul-places
-    loop-holds
-    div-i
-    rem-c
-    wrong-at-requires
-    offset-of-requires
-    cast-t14
-    returns
-    add-k
-    loop-less
-    loop-again
-    returns-2)
+    (tie.spec Inv-loop μ-loop (λ c κs. omega arith) mul-places loop-holds div-i rem-c wrong-at-requires
+    offset-of-requires (λ c. omega arith) returns add-k (λ c. omega arith) loop-again returns-2)

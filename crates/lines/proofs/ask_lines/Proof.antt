@@ -5,18 +5,12 @@ use Rattle.lines.proofs.Asking.{lines-malformed, lines-large, lines-las
 use Rattle.lines.proofs.ask_lines.Statement.{statement}
 use Rattle.lines.proofs.ask_lines.Tie as tie
 
-ask-each-requires : tie.Need-ask-each-requires
-ask-each-requires c κs = search needs
-
 returns : tie.Need-returns
 returns c =
     let p = c .before .before in
     let z = p .before .before .args in
     lines-malformed (z .sheet .now) (asSheet (z .m) (z .n) (z .numbers .now)) (p .ask-each .result)
     (p .ask-each .ensures) (c .if1 .taken)
-
-ask-each-requires-2 : tie.Need-ask-each-requires-2
-ask-each-requires-2 c κs = search needs
 
 returns-2 : tie.Need-returns-2
 returns-2 c =
@@ -25,9 +19,6 @@ returns-2 c =
     let z = p .before .before .args in
     lines-large (z .sheet .now) (asSheet (z .m) (z .n) (z .numbers .now)) (p .ask-each .result) (p .ask-each .ensures)
     (q .before .if1 .left) (q .ask-each2 .result) (q .ask-each2 .ensures) (c .if2 .taken)
-
-ask-each-requires-3 : tie.Need-ask-each-requires-3
-ask-each-requires-3 c κs = search needs
 
 returns-3 : tie.Need-returns-3
 returns-3 c =
@@ -41,10 +32,4 @@ returns-3 c =
 pub ask-lines-spec : {M : Type 1} → statement M
 ask-lines-spec =
     tie.close
-    (tie.spec
-    ask-each-requires
-    returns
-    ask-each-requires-2
-    returns-2
-    ask-each-requires-3
-    returns-3)
+    (tie.spec (λ c κs. search needs) returns (λ c κs. search needs) returns-2 (λ c κs. search needs) returns-3)

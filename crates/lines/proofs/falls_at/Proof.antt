@@ -6,18 +6,6 @@ use Rattle.lines.proofs.Places.{falls-field, falls-end}
 use Rattle.lines.proofs.falls_at.Statement.{statement}
 use Rattle.lines.proofs.falls_at.Tie as tie
 
-add-if1 : tie.Need-add-if1
-add-if1 c = search needs
-
-bundles-requires : tie.Need-bundles-requires
-bundles-requires c κs = search needs
-
-add-grows-to : tie.Need-add-grows-to
-add-grows-to c = search needs
-
-grows-to-requires : tie.Need-grows-to-requires
-grows-to-requires c κs = search needs
-
 returns : tie.Need-returns
 returns c =
     let z = c .before .before .before .args in
@@ -31,4 +19,5 @@ returns-2 c =
 
 pub falls-at-spec : {M : Type 1} → statement M
 falls-at-spec =
-    tie.close (tie.spec add-if1 bundles-requires add-grows-to grows-to-requires returns returns-2)
+    tie.close (tie.spec (λ c. search needs) (λ c κs. search needs) (λ c. search needs) (λ c κs. search needs) returns
+    returns-2)

@@ -17,29 +17,8 @@ Inv-loop numbers n i s at w j₀ j = (j ≤ n) × (every (n - j) j (growsBy numb
 abbrev μ-loop : tie.MeasureT-loop
 μ-loop numbers n i s at w j₀ j = n - j
 
-mul-at : tie.Need-mul-at Inv-loop μ-loop
-mul-at c = omega arith
-
-add-at : tie.Need-add-at Inv-loop μ-loop
-add-at c = omega arith
-
-mul-w : tie.Need-mul-w Inv-loop μ-loop
-mul-w c = omega arith
-
-element-copy-out-w : tie.Need-element-copy-out-w Inv-loop μ-loop
-element-copy-out-w c = omega arith
-
 loop-holds : tie.Need-loop-holds Inv-loop μ-loop
 loop-holds c = (omega arith, rw sub-zero refl)
-
-has-requires : tie.Need-has-requires Inv-loop μ-loop
-has-requires c κs = omega arith
-
-mul-part : tie.Need-mul-part Inv-loop μ-loop
-mul-part c = omega arith
-
-bundles-requires : tie.Need-bundles-requires Inv-loop μ-loop
-bundles-requires c κs = omega arith
 
 sub-part : tie.Need-sub-part Inv-loop μ-loop
 sub-part c =
@@ -50,15 +29,6 @@ sub-part c =
       c .bundles .ensures .is,
     )
 
-add-part : tie.Need-add-part Inv-loop μ-loop
-add-part c = omega arith
-
-mul-if2 : tie.Need-mul-if2 Inv-loop μ-loop
-mul-if2 c = omega arith
-
-element-copy-out-if2 : tie.Need-element-copy-out-if2 Inv-loop μ-loop
-element-copy-out-if2 c = omega arith
-
 returns : tie.Need-returns Inv-loop μ-loop
 returns c =
     let l = c .before .before .before .before .before .before in
@@ -68,12 +38,6 @@ returns c =
     every-failed (growsBy (z .numbers .now) (z .i) (z .s)) (z .n) j _ (omega arith) (l .loop .inv .1)
     (lot-less (z .numbers .now) (z .i) (z .s) j there (c .before .before .bundles .result)
     (c .before .before .bundles .ensures .is) (c .if2 .taken))
-
-add-j : tie.Need-add-j Inv-loop μ-loop
-add-j c = omega arith
-
-loop-less : tie.Need-loop-less Inv-loop μ-loop
-loop-less c = omega arith
 
 loop-again : tie.Need-loop-again Inv-loop μ-loop
 loop-again c =
@@ -98,23 +62,6 @@ returns-2 c =
 pub grows-to-spec : {M : Type 1} → statement M
 grows-to-spec =
     tie.close
-    (tie.spec
-    Inv-loop
-    μ-loop
-    mul-at
-    add-at
-    mul-w
-    element-copy-out-w
-    loop-holds
-    has-requires
-    mul-part
-    bundles-requires
-    sub-part
-    add-part
-    mul-if2
-    element-copy-out-if2
-    returns
-    add-j
-    loop-less
-    loop-again
-    returns-2)
+    (tie.spec Inv-loop μ-loop (λ c. omega arith) (λ c. omega arith) (λ c. omega arith) (λ c. omega arith) loop-holds
+    (λ c κs. omega arith) (λ c. omega arith) (λ c κs. omega arith) sub-part (λ c. omega arith) (λ c. omega arith)
+    (λ c. omega arith) returns (λ c. omega arith) (λ c. omega arith) loop-again returns-2)

@@ -30,9 +30,6 @@ returns-2 c =
     let z = c .before .before .args in
     absent-buyer (z .m) (z .n) (z .k) (c .before .if1 .left) (c .if2 .taken)
 
-bundles-requires : tie.Need-bundles-requires
-bundles-requires c κs = search needs
-
 returns-3 : tie.Need-returns-3
 returns-3 c =
     let z = c .before .before .before .args in
@@ -40,4 +37,4 @@ returns-3 c =
     (c .bundles .ensures .is)
 
 pub has-worth-spec : {M : Type 1} → statement M
-has-worth-spec = tie.close (tie.spec returns returns-2 bundles-requires returns-3)
+has-worth-spec = tie.close (tie.spec returns returns-2 (λ c κs. search needs) returns-3)

@@ -6,15 +6,9 @@ use Rattle.numbers.proofs.Numbers.{product-small}
 use Rattle.lines.proofs.offset_of.Statement.{statement}
 use Rattle.lines.proofs.offset_of.Tie as tie
 
-line-length-requires : tie.Need-line-length-requires
-line-length-requires c κs = search needs
-
 mul-result : tie.Need-mul-result
 mul-result c =
     omega (arith, product-small (c .before .args .i) (c .line-length .result) 6 91 (omega arith) (omega arith))
-
-mul-result-2 : tie.Need-mul-result-2
-mul-result-2 c = search needs
 
 add-result : tie.Need-add-result
 add-result c =
@@ -35,4 +29,4 @@ returns c =
 pub offset-of-spec : {M : Type 1} → statement M
 offset-of-spec =
     tie.close
-    (tie.spec line-length-requires mul-result mul-result-2 add-result add-result-2 returns)
+    (tie.spec (λ c κs. search needs) mul-result (λ c. search needs) add-result add-result-2 returns)

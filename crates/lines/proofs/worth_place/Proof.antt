@@ -8,9 +8,6 @@ use Rattle.sheet.proofs.Places.{place-absent, place-there, place-worth}
 use Rattle.lines.proofs.worth_place.Statement.{statement}
 use Rattle.lines.proofs.worth_place.Tie as tie
 
-has-worth-requires : tie.Need-has-worth-requires
-has-worth-requires c κs = search needs
-
 returns : tie.Need-returns
 returns c =
     let z = c .before .before .before .args in
@@ -22,12 +19,6 @@ sub-offset-of c =
     let z = c .before .before .before .args in
     place-there (z .m) (z .n) (worthIn (z .n) (z .sheet .now)) (z .k)
     (sym (c .before .has-worth .ensures) ∙ not-false _ (c .if1 .left)) .0
-
-offset-of-requires : tie.Need-offset-of-requires
-offset-of-requires c κs = search needs
-
-field-number-requires : tie.Need-field-number-requires
-field-number-requires c κs = search needs
 
 returns-2 : tie.Need-returns-2
 returns-2 c =
@@ -41,10 +32,4 @@ returns-2 c =
 pub worth-place-spec : {M : Type 1} → statement M
 worth-place-spec =
     tie.close
-    (tie.spec
-    has-worth-requires
-    returns
-    sub-offset-of
-    offset-of-requires
-    field-number-requires
-    returns-2)
+    (tie.spec (λ c κs. search needs) returns sub-offset-of (λ c κs. search needs) (λ c κs. search needs) returns-2)

@@ -6,15 +6,6 @@ use Rattle.lines.proofs.Places.{wrong-six, wrong-seven, wrong-eight}
 use Rattle.lines.proofs.wrong_at.Statement.{statement}
 use Rattle.lines.proofs.wrong_at.Tie as tie
 
-malformed-at-requires : tie.Need-malformed-at-requires
-malformed-at-requires c κs = omega arith
-
-too-large-at-requires : tie.Need-too-large-at-requires
-too-large-at-requires c κs = omega arith
-
-falls-at-requires : tie.Need-falls-at-requires
-falls-at-requires c κs = omega arith
-
 returns : tie.Need-returns
 returns c =
     let z = c .before .before .before .args in
@@ -37,10 +28,4 @@ returns-3 c =
 pub wrong-at-spec : {M : Type 1} → statement M
 wrong-at-spec =
     tie.close
-    (tie.spec
-    malformed-at-requires
-    too-large-at-requires
-    falls-at-requires
-    returns
-    returns-2
-    returns-3)
+    (tie.spec (λ c κs. omega arith) (λ c κs. omega arith) (λ c κs. omega arith) returns returns-2 returns-3)

@@ -15,16 +15,12 @@ abbrev μ-loop : tie.MeasureT-loop
 loop-holds : tie.Need-loop-holds Inv-loop μ-loop
 loop-holds c = held-first (c .args .t1) (c .args .lots) (c .args .i)
 
-array-read-owner : tie.Need-array-read-owner Inv-loop μ-loop
-array-read-owner c = omega arith
-
-owner-requires : tie.Need-owner-requires Inv-loop μ-loop
-owner-requires c κs = omega arith
-
 -- a share is small
 module _ (l : tie.At-loop Inv-loop μ-loop) where
   few : l .loop .share ≤ 16
-  few = share-small (l .before .args .t1) (l .before .args .lots) (l .before .args .i) (l .loop .lot) (l .loop .s) (l .loop .share) (l .loop .inv) (omega arith)
+  few =
+      share-small (l .before .args .t1) (l .before .args .lots) (l .before .args .i) (l .loop .lot) (l .loop .s)
+      (l .loop .share) (l .loop .inv) (omega arith)
 
 add-s : tie.Need-add-s Inv-loop μ-loop
 add-s c = omega (arith, few (c .before .before .before), c .before .before .before .loop .inv .small)
@@ -32,20 +28,16 @@ add-s c = omega (arith, few (c .before .before .before), c .before .before .befo
 mul-share : tie.Need-mul-share Inv-loop μ-loop
 mul-share c = omega (arith, few (c .before .before .before))
 
-add-lot : tie.Need-add-lot Inv-loop μ-loop
-add-lot c = omega arith
-
-loop-less : tie.Need-loop-less Inv-loop μ-loop
-loop-less c = omega arith
-
 loop-again : tie.Need-loop-again Inv-loop μ-loop
 loop-again c =
     let l = c .before .before .before in
     let z = l .before .args in
     let o = c .before .owner in
     ⊎-elim
-    (λ w. held-owned (z .t1) (z .lots) (z .i) (l .loop .lot) (l .loop .s) (l .loop .share) (l .loop .inv) (c .before .before .loop-test .taken) (omega arith) (o .result) (o .ensures) (c .if1 .s) (w .0 .taken) (w .1))
-    (λ w. held-not (z .t1) (z .lots) (z .i) (l .loop .lot) (l .loop .s) (l .loop .share) (l .loop .inv) (c .before .before .loop-test .taken) (omega arith) (o .result) (o .ensures) (c .if1 .s) (w .0 .left) (w .1))
+    (λ w. held-owned (z .t1) (z .lots) (z .i) (l .loop .lot) (l .loop .s) (l .loop .share) (l .loop .inv)
+    (c .before .before .loop-test .taken) (omega arith) (o .result) (o .ensures) (c .if1 .s) (w .0 .taken) (w .1))
+    (λ w. held-not (z .t1) (z .lots) (z .i) (l .loop .lot) (l .loop .s) (l .loop .share) (l .loop .inv)
+    (c .before .before .loop-test .taken) (omega arith) (o .result) (o .ensures) (c .if1 .s) (w .0 .left) (w .1))
     (c .if1 .came)
 
 returns : tie.Need-returns Inv-loop μ-loop
@@ -60,15 +52,5 @@ returns c =
 pub bundle-of-spec : {M : Type 1} → statement M
 bundle-of-spec =
     tie.close
-    (tie.spec
-    Inv-loop
-    μ-loop
-    loop-holds
-    array-read-owner
-    owner-requires
-    add-s
-    mul-share
-    add-lot
-    loop-less
-    loop-again
-    returns)
+    (tie.spec Inv-loop μ-loop loop-holds (λ c. omega arith) (λ c κs. omega arith) add-s mul-share (λ c. omega arith)
+    (λ c. omega arith) loop-again returns)

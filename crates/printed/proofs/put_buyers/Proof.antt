@@ -102,6 +102,7 @@ pub put-buyers-spec : {M : Type 1} → statement M
 put-buyers-spec =
     tie.close
     (tie.spec Inv-loop μ-loop (λ c. omega arith) (λ c. omega arith) loop-holds (λ c. omega arith) (λ c. omega arith)
-    (λ c κs. omega arith) (λ c. search needs) (λ c. omega arith) entry-requires (λ c. omega arith) (λ c. omega arith) (λ c. omega arith)
+    (λ c κs. omega arith) (λ c. search needs) (λ c. omega arith) entry-requires (λ c. omega arith) (λ c. omega arith)
+    (λ c. omega arith)
     (λ c. omega arith) (λ c. omega arith) (λ c. omega arith) sub-put-line part-put-line-start (λ c. omega arith)
     slice-aggregate-put-line put-line-requires (λ c. omega arith) (λ c. omega arith) loop-again same-length returns)

@@ -12,8 +12,13 @@ returns c =
     let z = a .before .before .before in
     let w = a .before .wide in
     let p = c .before .wide2 in
-    let e = payoff-some (z .args .top) (z .args .worths .now) (z .args .prices .now) (z .args .i) _ _ (z .pre .2) (w .ensures .is) (p .ensures .is) in
-    record { is = omega (arith, e); most = omega (arith, w .ensures .is, z .pre .4 (16 * (z .args .i - 1) + z .args .top)) }
+    let e = payoff-some (z .args .top) (z .args .worths .now) (z .args .prices .now) (z .args .i) _ _ (z .pre .2)
+    (w .ensures .is) (p .ensures .is) in
+    record {
+      is = omega (arith, e);
+      most = omega
+          (arith, w .ensures .is, z .pre .4 (16 * (z .args .i - 1) + z .args .top));
+    }
 
 returns-2 : tie.Need-returns-2
 returns-2 c =
@@ -21,7 +26,8 @@ returns-2 c =
     let z = a .before .before .before in
     let w = a .before .wide in
     let p = c .before .wide2 in
-    let e = payoff-some (z .args .top) (z .args .worths .now) (z .args .prices .now) (z .args .i) _ _ (z .pre .2) (w .ensures .is) (p .ensures .is) in
+    let e = payoff-some (z .args .top) (z .args .worths .now) (z .args .prices .now) (z .args .i) _ _ (z .pre .2)
+    (w .ensures .is) (p .ensures .is) in
     record { is = omega (arith, e); most = omega arith }
 
 pub payoff-spec : {M : Type 1} → statement M

@@ -24,10 +24,15 @@ array-write-left : tie.Need-array-write-left Inv-loop μ-loop
 array-write-left c = omega (arith, c .before .before .loop .inv .1 .filled .long)
 
 loop-again : tie.Need-loop-again Inv-loop μ-loop
-loop-again c = (omega arith, read-next (c .payoff .result) (c .before .before .loop .inv .1) (omega arith) (c .payoff .ensures .is) (c .payoff .ensures .most))
+loop-again c = (
+  omega arith,
+  read-next (c .payoff .result) (c .before .before .loop .inv .1) (omega arith) (c .payoff .ensures .is)
+      (c .payoff .ensures .most),
+)
 
 returns : tie.Need-returns Inv-loop μ-loop
-returns c = (c .before .loop .inv .1 .small, read-end (c .before .before .args .buyers) (c .before .loop .inv .1) (omega arith))
+returns c =
+    (c .before .loop .inv .1 .small, read-end (c .before .before .args .buyers) (c .before .loop .inv .1) (omega arith))
 
 pub payoffs-spec : {M : Type 1} → statement M
 payoffs-spec =

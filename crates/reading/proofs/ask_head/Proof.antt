@@ -15,16 +15,10 @@ use Rattle.numbers.proofs.Numbers.{product-small}
 use Rattle.reading.proofs.ask_head.Statement.{statement}
 use Rattle.reading.proofs.ask_head.Tie as tie
 
-turned-down-requires : tie.Need-turned-down-requires
-turned-down-requires c κs = search needs
-
 returns : tie.Need-returns
 returns c =
     let p = c .before .before .before in
     short-sheet (p .args .sheet .now) (c .turned-down .result) (c .turned-down .ensures) (c .before .if1 .taken)
-
-read-head-requires : tie.Need-read-head-requires
-read-head-requires c κs = search needs
 
 -- once the first line is read, and once its numbers were asked about
 module _ (p : tie.After-read-head) where
@@ -50,24 +44,12 @@ returns-2 c =
     let p = c .before .before in
     bad-head (sheet p) (long p) (head p) (p .read-head .ensures) (c .if2 .taken)
 
-is-between-requires : tie.Need-is-between-requires
-is-between-requires c κs = search needs
-
-turned-down-requires-2 : tie.Need-turned-down-requires-2
-turned-down-requires-2 c κs = search needs
-
 returns-3 : tie.Need-returns-3
 returns-3 c =
     let e = c .before .before .before in
     let p = e .before .before in
     bad-buyers (sheet p) (long p) (head p) (p .read-head .ensures) (e .if2 .left) (c .turned-down2 .result)
     (c .turned-down2 .ensures) (sym (c .before .before .is-between .ensures) ∙ not-true _ (c .before .if3 .taken))
-
-is-between-requires-2 : tie.Need-is-between-requires-2
-is-between-requires-2 c κs = search needs
-
-turned-down-requires-3 : tie.Need-turned-down-requires-3
-turned-down-requires-3 c κs = search needs
 
 returns-4 : tie.Need-returns-4
 returns-4 c =
@@ -100,9 +82,6 @@ add-if5 c =
           (c .before .line-length .ensures .most),
     )
 
-turned-down-requires-4 : tie.Need-turned-down-requires-4
-turned-down-requires-4 c κs = search needs
-
 returns-5 : tie.Need-returns-5
 returns-5 c =
     let l = c .before .before .before in
@@ -124,20 +103,6 @@ returns-6 c =
 pub ask-head-spec : {M : Type 1} → statement M
 ask-head-spec =
     tie.close
-    (tie.spec
-    turned-down-requires
-    returns
-    read-head-requires
-    returns-2
-    is-between-requires
-    turned-down-requires-2
-    returns-3
-    is-between-requires-2
-    turned-down-requires-3
-    returns-4
-    line-length-requires
-    mul-if5
-    add-if5
-    turned-down-requires-4
-    returns-5
-    returns-6)
+    (tie.spec (λ c κs. search needs) returns (λ c κs. search needs) returns-2 (λ c κs. search needs)
+    (λ c κs. search needs) returns-3 (λ c κs. search needs) (λ c κs. search needs) returns-4 line-length-requires
+    mul-if5 add-if5 (λ c κs. search needs) returns-5 returns-6)

@@ -16,26 +16,11 @@ abbrev μ-loop : tie.MeasureT-loop
 loop-holds : tie.Need-loop-holds Inv-loop μ-loop
 loop-holds c = (omega arith, filled-none _ 96 _ refl)
 
-mul-t : tie.Need-mul-t Inv-loop μ-loop
-mul-t c = omega arith
-
-element-copy-out-t : tie.Need-element-copy-out-t Inv-loop μ-loop
-element-copy-out-t c = omega arith
-
 cast-t : tie.Need-cast-t Inv-loop μ-loop
 cast-t c = omega (arith, c .before .before .before .pre .small (c .before .before .loop .k))
 
-mul-t-2 : tie.Need-mul-t-2 Inv-loop μ-loop
-mul-t-2 c = omega arith
-
 array-write-t : tie.Need-array-write-t Inv-loop μ-loop
 array-write-t c = omega (arith, c .before .before .loop .inv .1 .long)
-
-add-k : tie.Need-add-k Inv-loop μ-loop
-add-k c = omega arith
-
-loop-less : tie.Need-loop-less Inv-loop μ-loop
-loop-less c = omega arith
 
 loop-again : tie.Need-loop-again Inv-loop μ-loop
 loop-again c = (omega arith, filled-more _ 96 _ _ _ (omega arith) refl (c .before .before .loop .inv .1))
@@ -46,16 +31,5 @@ returns c = filled-copy 96 _ _ _ (omega arith) (c .before .before .pre .long) (c
 pub narrowed-spec : {M : Type 1} → statement M
 narrowed-spec =
     tie.close
-    (tie.spec
-    Inv-loop
-    μ-loop
-    loop-holds
-    mul-t
-    element-copy-out-t
-    cast-t
-    mul-t-2
-    array-write-t
-    add-k
-    loop-less
-    loop-again
-    returns)
+    (tie.spec Inv-loop μ-loop loop-holds (λ c. omega arith) (λ c. omega arith) cast-t (λ c. omega arith) array-write-t
+    (λ c. omega arith) (λ c. omega arith) loop-again returns)

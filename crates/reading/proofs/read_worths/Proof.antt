@@ -6,12 +6,6 @@ use Rattle.reading.proofs.Reading.{refused-head, refused-lines, small-w
 use Rattle.reading.proofs.read_worths.Statement.{statement}
 use Rattle.reading.proofs.read_worths.Tie as tie
 
-ask-head-requires : tie.Need-ask-head-requires
-ask-head-requires c κs = search needs
-
-refused-requires : tie.Need-refused-requires
-refused-requires c κs = search needs
-
 returns : tie.Need-returns
 returns c =
     let p = c .before .before .before in
@@ -28,9 +22,6 @@ read-numbers-requires c κs = (passed c .few-buyers, passed c .few-lots)
 
 ask-lines-requires : tie.Need-ask-lines-requires
 ask-lines-requires c κs = let p = c .before .before in (passed p .few-buyers, passed p .few-lots)
-
-refused-requires-2 : tie.Need-refused-requires-2
-refused-requires-2 c κs = search needs
 
 returns-2 : tie.Need-returns-2
 returns-2 c =
@@ -69,15 +60,5 @@ returns-3 c =
 pub read-worths-spec : {M : Type 1} → statement M
 read-worths-spec =
     tie.close
-    (tie.spec
-    ask-head-requires
-    refused-requires
-    returns
-    read-numbers-requires
-    ask-lines-requires
-    refused-requires-2
-    returns-2
-    cast-t10
-    cast-t11
-    narrowed-requires
-    returns-3)
+    (tie.spec (λ c κs. search needs) (λ c κs. search needs) returns read-numbers-requires ask-lines-requires
+    (λ c κs. search needs) returns-2 cast-t10 cast-t11 narrowed-requires returns-3)

@@ -51,7 +51,8 @@ module _ (c : tie.After-entry Inv-loop μ-loop) where
   same : let z = place .before .before .args in c .entry .result ≡ all-lots (z .worths .now) (z .n) (place .loop .i)
   same =
       let z = place .before .before .args in
-      c .entry .ensures .is ∙ entry-plain (z .worths .now) (place .loop .i) (place .before .power .result - 1) (omega arith)
+      c .entry .ensures .is
+      ∙ entry-plain (z .worths .now) (place .loop .i) (place .before .power .result - 1) (omega arith)
       ∙ ap (λ p. worth (z .worths .now) (place .loop .i) (p - 1)) (place .before .power .ensures .is)
 
   small : c .entry .result ≤ 9999

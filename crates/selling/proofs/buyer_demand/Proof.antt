@@ -19,7 +19,8 @@ returns : tie.Need-returns
 returns c =
     let p = c .before .before .before in
     let z = p .before .before .args in
-    demand-refused (z .sheet .now) (p .read-worths .result) (p .read-worths .ensures) (z .buyer) (z .t3) (c .before .if1 .taken) (c .refused-demand .result) (c .refused-demand .ensures)
+    demand-refused (z .sheet .now) (p .read-worths .result) (p .read-worths .ensures) (z .buyer) (z .t3)
+    (c .before .if1 .taken) (c .refused-demand .result) (c .refused-demand .ensures)
 
 returns-2 : tie.Need-returns-2
 returns-2 c =
@@ -28,7 +29,8 @@ returns-2 c =
     let p = e .before .before in
     let z = p .before .before .args in
     demand-nobody (z .sheet .now) (p .read-worths .result) (p .read-worths .ensures) (e .if1 .left) (z .buyer) (z .t3)
-    (sym (q .is-between .ensures) ∙ not-true _ (c .before .if2 .taken)) (c .refused-demand2 .result) (c .refused-demand2 .ensures)
+    (sym (q .is-between .ensures) ∙ not-true _ (c .before .if2 .taken)) (c .refused-demand2 .result)
+    (c .refused-demand2 .ensures)
 
 -- the buyer is there
 module _ (g : tie.Else2) where

@@ -18,7 +18,8 @@ abbrev missing : ℕ → ℕ → ℕ → Bool
 missing word other n = bit n word && not (bit n other)
 
 abbrev Inv-loop : tie.InvT-loop
-Inv-loop word other sets n₀ n = (n ≤ sets) × (least (sets - n) n (missing word other) ≡ least sets 0 (missing word other))
+Inv-loop word other sets n₀ n =
+    (n ≤ sets) × (least (sets - n) n (missing word other) ≡ least sets 0 (missing word other))
 
 abbrev μ-loop : tie.MeasureT-loop
 μ-loop word other sets n₀ n = sets - n
@@ -34,7 +35,12 @@ returns c =
     let n = l .loop .n in
     let found = both (bit n (z .word)) (bit n (z .other)) (sym (t .before .has .ensures) ∙ t .if1 .taken)
     (sym (c .before .has2 .ensures) ∙ not-true _ (c .if2 .taken)) in
-    record { is = add-one n ∙ least-here (missing (z .word) (z .other)) (z .sets) n _ (omega arith) (l .loop .inv .1) found; most = omega arith }
+    record {
+      is = add-one n
+          ∙ least-here (missing (z .word) (z .other)) (z .sets) n _ (omega arith) (l .loop .inv .1) found;
+      most =
+          omega arith;
+    }
 
 loop-again : tie.Need-loop-again Inv-loop μ-loop
 loop-again c =
@@ -43,15 +49,27 @@ loop-again c =
     let n = l .loop .n in
     let step = least-passed (missing (z .word) (z .other)) (z .sets) n _ (omega arith) (l .loop .inv .1) in
     ⊎-elim
-    (λ w. (omega arith, step (not-second (bit n (z .word)) (bit n (z .other)) (sym (w .1 .ensures) ∙ not-false _ (w .2 .left)))))
-    (λ w. (omega arith, step (not-first (bit n (z .word)) (bit n (z .other)) (sym (c .before .has .ensures) ∙ w .left))))
+    (λ w. (
+      omega arith,
+      step (not-second (bit n (z .word)) (bit n (z .other))
+          (sym (w .1 .ensures) ∙ not-false _ (w .2 .left))),
+    ))
+    (λ w. (
+      omega arith,
+      step (not-first (bit n (z .word)) (bit n (z .other))
+          (sym (c .before .has .ensures) ∙ w .left)),
+    ))
     (c .if1 .came)
 
 returns-2 : tie.Need-returns-2 Inv-loop μ-loop
 returns-2 c =
     let l = c .before in
     let z = l .before .args in
-    record { is = least-done (missing (z .word) (z .other)) (z .sets) (l .loop .n) _ (omega arith) (l .loop .inv .1); most = omega arith }
+    record {
+      is = least-done (missing (z .word) (z .other)) (z .sets) (l .loop .n) _ (omega arith)
+          (l .loop .inv .1);
+      most = omega arith;
+    }
 
 pub first-missing-spec : {M : Type 1} → statement M
 first-missing-spec =

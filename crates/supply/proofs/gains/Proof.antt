@@ -11,7 +11,8 @@ use Rattle.supply.proofs.gains.Statement.{statement}
 use Rattle.supply.proofs.gains.Tie as tie
 
 abbrev Inv-loop : tie.InvT-loop
-Inv-loop values payoffs buyers sets next₀ k₀ next k = (k ≤ sets) × Filled (gain (roster buyers) shift (at values) (owed payoffs)) 64 k next
+Inv-loop values payoffs buyers sets next₀ k₀ next k =
+    (k ≤ sets) × Filled (gain (roster buyers) shift (at values) (owed payoffs)) 64 k next
 
 abbrev μ-loop : tie.MeasureT-loop
 μ-loop values payoffs buyers sets next₀ k₀ next k = sets - k
@@ -36,7 +37,8 @@ loop-again c =
     let l = c .before .before .before in
     let z = l .before .args in (
       omega arith,
-      filled-more _ 64 _ _ _ (omega arith) (ap (λ p. shift + getD (z .values .now) (l .loop .k) 0 - p) (c .payoff-of .ensures .is)) (l .loop .inv .1),
+      filled-more _ 64 _ _ _ (omega arith)
+          (ap (λ p. shift + getD (z .values .now) (l .loop .k) 0 - p) (c .payoff-of .ensures .is)) (l .loop .inv .1),
     )
 
 returns : tie.Need-returns Inv-loop μ-loop

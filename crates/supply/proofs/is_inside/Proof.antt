@@ -15,7 +15,8 @@ returns c =
 returns-2 : tie.Need-returns-2
 returns-2 c =
     let z = c .before .before in
-    inside-but (z .args .buyers) (z .args .absent) (z .args .k) _ (c .before .if1 .left) (z .pre .1) (c .is-member .ensures)
+    inside-but (z .args .buyers) (z .args .absent) (z .args .k) _ (c .before .if1 .left) (z .pre .1)
+    (c .is-member .ensures)
 
 pub is-inside-spec : {M : Type 1} → statement M
 is-inside-spec = tie.close (tie.spec returns (λ c κs. search needs) returns-2)

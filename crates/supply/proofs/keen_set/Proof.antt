@@ -20,7 +20,12 @@ loop-holds c = (omega arith, number-none (c .args .buyers) (keen (c .args .payof
 
 module _ (l : tie.At-loop Inv-loop μ-loop) where
   small : l .loop .set < 64
-  small = omega (arith, number-small (l .before .args .buyers - l .loop .i) (suc (l .loop .i)) (keen (l .before .args .payoffs .now)) (omega arith))
+  small =
+      omega (
+        arith,
+        number-small (l .before .args .buyers - l .loop .i) (suc (l .loop .i))
+            (keen (l .before .args .payoffs .now)) (omega arith),
+      )
 
 mul-set : tie.Need-mul-set Inv-loop μ-loop
 mul-set c = omega (arith, small (c .before))
@@ -35,18 +40,21 @@ loop-again c =
     ⊎-elim
     (λ w. (
       omega arith,
-      keen-in (z .buyers) (l .loop .i) (l .loop .set) (z .payoffs .now) (omega arith) (omega arith) (l .loop .inv .1) _ (w .0 .taken) (w .1),
+      keen-in (z .buyers) (l .loop .i) (l .loop .set) (z .payoffs .now) (omega arith) (omega arith) (l .loop .inv .1) _
+          (w .0 .taken) (w .1),
     ))
     (λ w. (
       omega arith,
-      keen-out (z .buyers) (l .loop .i) (l .loop .set) (z .payoffs .now) (omega arith) (omega arith) (l .loop .inv .1) _ (w .0 .left) (w .1),
+      keen-out (z .buyers) (l .loop .i) (l .loop .set) (z .payoffs .now) (omega arith) (omega arith) (l .loop .inv .1) _
+          (w .0 .left) (w .1),
     ))
     (c .if1 .came)
 
 returns : tie.Need-returns Inv-loop μ-loop
 returns c =
     let z = c .before .before in
-    keen-all (z .args .buyers) (c .before .loop .i) _ (z .args .payoffs .now) (z .pre) (omega arith) (c .before .loop .inv .1)
+    keen-all (z .args .buyers) (c .before .loop .i) _ (z .args .payoffs .now) (z .pre) (omega arith)
+    (c .before .loop .inv .1)
 
 pub keen-set-spec : {M : Type 1} → statement M
 keen-set-spec =

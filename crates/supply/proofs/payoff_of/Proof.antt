@@ -13,7 +13,8 @@ use Rattle.supply.proofs.payoff_of.Statement.{statement}
 use Rattle.supply.proofs.payoff_of.Tie as tie
 
 abbrev Inv-loop : tie.InvT-loop
-Inv-loop payoffs buyers k total₀ i₀ total i = (i ≤ buyers) × (total ≡ sum (buyers - i) (suc i) (only (member k) (owed payoffs))) × (total ≤ 9999 * (buyers - i))
+Inv-loop payoffs buyers k total₀ i₀ total i =
+    (i ≤ buyers) × (total ≡ sum (buyers - i) (suc i) (only (member k) (owed payoffs))) × (total ≤ 9999 * (buyers - i))
 
 abbrev μ-loop : tie.MeasureT-loop
 μ-loop payoffs buyers k total₀ i₀ total i = i
@@ -22,7 +23,8 @@ loop-holds : tie.Need-loop-holds Inv-loop μ-loop
 loop-holds c = let z : c .args .buyers - c .args .buyers ≡ 0 = omega arith in (omega arith, rw z, omega arith)
 
 add-total : tie.Need-add-total Inv-loop μ-loop
-add-total c = omega (arith, c .before .before .before .before .before .pre .1 (c .before .before .before .before .loop .i - 1))
+add-total c =
+    omega (arith, c .before .before .before .before .before .pre .1 (c .before .before .before .before .loop .i - 1))
 
 loop-again : tie.Need-loop-again Inv-loop μ-loop
 loop-again c =
@@ -32,13 +34,15 @@ loop-again c =
     ⊎-elim
     (λ w. (
       omega arith,
-      pay-in (z .args .buyers) (l .loop .i) (z .args .k) (l .loop .total) (z .args .payoffs .now) (omega arith) (omega arith) (l .loop .inv .1)
+      pay-in (z .args .buyers) (l .loop .i) (z .args .k) (l .loop .total) (z .args .payoffs .now) (omega arith)
+          (omega arith) (l .loop .inv .1)
           _ (m .ensures) _ (w .0 .taken) (w .2),
       omega (arith, w, z .pre .1 (l .loop .i - 1)),
     ))
     (λ w. (
       omega arith,
-      pay-out (z .args .buyers) (l .loop .i) (z .args .k) (l .loop .total) (z .args .payoffs .now) (omega arith) (omega arith) (l .loop .inv .1)
+      pay-out (z .args .buyers) (l .loop .i) (z .args .k) (l .loop .total) (z .args .payoffs .now) (omega arith)
+          (omega arith) (l .loop .inv .1)
           _ (m .ensures) _ (w .0 .left) (w .1),
       omega (arith, w),
     ))

@@ -1,5 +1,5 @@
--- `totals::greatest_totals` meets its contract. The invariant, for each economy: the greater of its number so far and the
--- totals from place k on is that of all.
+-- `totals::greatest_totals` meets its contract. The invariant, for each economy: the greater of its number so far and
+-- the totals from place k on is that of all.
 use mathlib.Core.Path.{refl}
 use Prim.Native.Nat.{_-_, _≤_}
 use native.Mathlib.Omega.{arith}
@@ -30,7 +30,8 @@ loop-again c =
     let z = l .before .before .before .args in (
       omega arith,
       reached-more (z .low) (z .buyers) (z .table .now) (z .list .now) (l .loop .k) (l .loop .greatest)
-          (l .loop .inv .1) (omega arith) (t .total-of .result) (t .total-of .ensures .is) (t .total-of .ensures .most) _
+          (l .loop .inv .1) (omega arith) (t .total-of .result) (t .total-of .ensures .is)
+          (t .total-of .ensures .most) _
           (c .raise-greatest .ensures .0) (c .raise-greatest .ensures .1) (c .raise-greatest .ensures .2),
     )
 

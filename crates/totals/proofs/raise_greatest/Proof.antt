@@ -1,4 +1,5 @@
--- `totals::raise_greatest` meets its contract. The invariant: the economies below e have been raised, and the others not.
+-- `totals::raise_greatest` meets its contract. The invariant: the economies below e have been raised, and the others
+-- not.
 use mathlib.Core.Logic.{⊎-elim}
 use Prim.Native.Nat.{_+_, _-_, _≤_}
 use native.Mathlib.Omega.{arith}

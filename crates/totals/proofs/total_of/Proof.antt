@@ -1,5 +1,5 @@
--- `totals::total_of` meets its contract. The invariant: what stands for the bidders so far and for those from i on makes
--- the whole sum.
+-- `totals::total_of` meets its contract. The invariant: what stands for the bidders so far and for those from i on
+-- makes the whole sum.
 use mathlib.Core.Path.{_≡_, ap}
 use Prim.Native.Nat.{_+_, _-_, _*_, _≤_}
 use native.Mathlib.Omega.{arith}
