@@ -26,8 +26,7 @@ pub record Offer : Type 0 where
   pub lists : List (List ℕ)
   pub worths : List ℕ
 
--- n lots, each to one of m buyers or to nobody (rules 1.1 to 1.10); those of a sheet, and of
--- its bytes
+-- n lots, each to one of m buyers or to nobody (rules 1.1 to 1.10); those of a sheet, and of its bytes
 abbrev pub lotsAmong : ℕ → ℕ → List ℕ → Offer
 lotsAmong m n ws =
     record {
