@@ -1,6 +1,6 @@
 -- The economies of an offer by their numbers (`Numbers`, `economy-number`, `number-economy`, `at-number`); each has
--- some of all allocations (`economy-fewer`), a buyer is present in every one but its own (`present-other`), and a
--- revenue is reached and not passed (`revenue-greatest`).
+-- some of all allocations (`economy-fewer`), a buyer is present in every one but its own (`present-other`), a
+-- revenue is reached and not passed (`revenue-greatest`), and fewer of them make an auction too (`judged-regular`).
 use mathlib.Core.Path.{_≡_, refl}
 use mathlib.Core.Logic.{_≢_, _↔_}
 use mathlib.Core.Bool.{true}
@@ -14,8 +14,10 @@ use Rattle.theory.proofs.Tests.{not-means, eqb-means}
 use Rattle.theory.proofs.Lists.{most-upper, most-reached, keep-from}
 use Rattle.owners.specs.Owners.{lacks}
 use Rattle.owners.specs.Quick.{presentIn}
+use Rattle.owners.specs.Sales.{Worths, Hall}
 use Rattle.owners.proofs.Economies.{economies-all, whole-in, lacking-in}
-use Rattle.offers.specs.Offers.{Offer, market, Bids, priceAt, without, economy, theAuction, revenue}
+use Rattle.offers.specs.Offers.{Offer, market, Bids, seats, bits, worthOf, priceAt, without, economy, judgedIn}
+use Rattle.offers.specs.Offers.{theAuction, revenue}
 use Rattle.offers.specs.Claims.{economyAt, Regular}
 
 -- an economy has the number e: its lists, and who is present
@@ -69,3 +71,30 @@ module _ (O : Offer) where
     most-reached (total (market O) (priceAt O ps)) (regular .some e .1),
     λ c m. most-upper (total (market O) (priceAt O ps)) m,
   )
+
+-- what is asked of the auction with all economies holds of it with fewer
+pub judged-regular : (O : Offer) → Regular O → (k : ℕ) → k ≤ O .buyers →
+    Hall (judgedIn O k) (seats O) (O .bundles) (bits O) (O .lists)
+    × Worths (judgedIn O k) (seats O) (O .bundles) (worthOf O)
+judged-regular O regular k few =
+    let hall = regular .hall in
+    let worths = regular .worths in
+    let one : (e : Economy (List ℕ)) → e ∈ judgedIn O k .economies → e ∈ theAuction O .economies =
+    economies-all k (O .lists) (λ e. e ∈ theAuction O .economies) (whole-in (O .buyers) (O .lists))
+    (λ i r. lacking-in (O .buyers) (O .lists) i (omega arith)) in (
+      record {
+        ready = record { sound = λ e m. hall .ready .sound e (one e m); numbered = hall .ready .numbered };
+        ranked = hall .ranked;
+        seated = hall .seated;
+        small = hall .small;
+        topped = hall .topped;
+        bundled = hall .bundled;
+        someone = hall .someone;
+        part = λ e m. hall .part e (one e m);
+        everybody = whole-in k (O .lists);
+      },
+      record {
+        proper = record { monotone = worths .proper .monotone; free = worths .proper .free };
+        topmost = worths .topmost;
+      },
+    )

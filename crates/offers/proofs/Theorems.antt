@@ -54,10 +54,10 @@ prices-long : (O : Offer) (k : ℕ) → length (pricesAfter O k) ≡ 16 * seats 
 unfolding pricesAfter startPrices
 prices-long O k = after-long O (take k (saleSets O)) (startPrices O) (length-replicate (16 * seats O .rows) 0)
 
-pub last-long : (O : Offer) (f : ℕ) → length (pricesFrom O (startPrices O) f) ≡ 16 * seats O .rows
-unfolding raised startPrices setsFrom pricesFrom
-last-long O f =
-    after-long O (setsFrom O (startPrices O) f) (startPrices O) (length-replicate (16 * seats O .rows) 0)
+pub last-long : (O : Offer) (k : ℕ) (ps : List ℕ) (f : ℕ) → length ps ≡ 16 * seats O .rows →
+    length (pricesFrom O k ps f) ≡ 16 * seats O .rows
+unfolding raised setsFrom pricesFrom
+last-long O k ps f = after-long O (setsFrom O k ps f) ps
 
 -- the empty set has number 0, and no other has
 member-none : (O : Offer) (i : ℕ) → member O 0 i ≡ false

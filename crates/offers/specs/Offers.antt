@@ -87,17 +87,20 @@ module _ (O : Offer) where
   economy zero = O .lists
   economy (suc e) = without (suc e)
 
-  -- the auction, with its economies (rule 4.4) and the numbers of sets (rule 4.9)
-  abbrev pub theAuction : auction.Auction (List ℕ)
-  theAuction =
+  -- the auction with economies 0 to k (rule 4.4) and the numbers of sets (rule 4.9); and with all economies
+  abbrev pub judgedIn : ℕ → auction.Auction (List ℕ)
+  judgedIn k =
       record {
         market = market;
-        economies = owners.economies (O .buyers) (O .lists);
+        economies = owners.economies k (O .lists);
         member = member;
         sets = 2 ^ bits;
         within = λ s u. s ≡ u;
         top = O .bundles - 1;
       }
+
+  abbrev pub theAuction : auction.Auction (List ℕ)
+  theAuction = judgedIn (O .buyers)
 
   module _ (ps : List ℕ) where
     -- a bidder's greatest payoff (rule 4.1), 65,535 higher

@@ -12,8 +12,8 @@ use Rattle.theory.specs.Markets.{sumOf, total, discount, pricePay}
 use Rattle.theory.specs.Auction.{closes}
 use Rattle.owners.specs.Prices.{zeros}
 use Rattle.owners.specs.Sales as sales
-use Rattle.offers.specs.Offers.{Offer, market, seats, worthOf, priceAt, without, economy, theAuction, quote}
-use Rattle.offers.specs.Offers.{isKeen}
+use Rattle.offers.specs.Offers.{Offer, market, seats, worthOf, priceAt, without, economy, judgedIn, theAuction}
+use Rattle.offers.specs.Offers.{quote, isKeen}
 
 module _ (O : Offer) where
   -- rule 4.11: the prices after a round of the set
@@ -28,25 +28,25 @@ module _ (O : Offer) where
   unfoldable pub startPrices : List ℕ
   startPrices = zeros (seats O)
 
-  -- rules 4.10 and 4.13: from the prices ps on, the sets of at most f rounds, until none is undersupplied; and the
-  -- prices after them
-  unfoldable pub setsFrom : List ℕ → ℕ → List ℕ
-  setsFrom ps f = sales.sets (theAuction O) (seats O) (O .bundles) (worthOf O) ps f
+  -- rules 4.10 and 4.13: judged in the economies 0 to k, from the prices ps on, the sets of at most f rounds, until
+  -- none is undersupplied; and the prices after them
+  unfoldable pub setsFrom : ℕ → List ℕ → ℕ → List ℕ
+  setsFrom k ps f = sales.sets (judgedIn O k) (seats O) (O .bundles) (worthOf O) ps f
 
-  unfoldable pub pricesFrom : List ℕ → ℕ → List ℕ
-  pricesFrom ps f = sales.lastPrices (theAuction O) (seats O) (O .bundles) (worthOf O) ps f
+  unfoldable pub pricesFrom : ℕ → List ℕ → ℕ → List ℕ
+  pricesFrom k ps f = sales.lastPrices (judgedIn O k) (seats O) (O .bundles) (worthOf O) ps f
 
   -- the sets of a sale's rounds. Question 9's sum bounds how many are looked for; that no more would come is `last-uce`
   -- of demand 2.
   unfoldable pub saleSets : List ℕ
-  saleSets = setsFrom startPrices roundLimit
+  saleSets = setsFrom (O .buyers) startPrices roundLimit
 
   -- the prices after the first k rounds, and after all
   unfoldable pub pricesAfter : ℕ → List ℕ
   pricesAfter k = after raised startPrices (take k saleSets)
 
   unfoldable pub lastPrices : List ℕ
-  lastPrices = pricesFrom startPrices roundLimit
+  lastPrices = pricesFrom (O .buyers) startPrices roundLimit
 
   module _ (ps : List ℕ) where
     -- rule 5.1: whether an allocation fits among all bidders and gives every keen one a demanded bundle; and the first

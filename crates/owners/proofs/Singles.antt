@@ -10,7 +10,7 @@ use native.Mathlib.Omega.{arith}
 use lib.Dec.{eqb}
 use lib.ListN.{length, getD}
 use lib.Pow.{pow-pos, pow-mono}
-use Rattle.theory.specs.Sums.{when, Among}
+use Rattle.theory.specs.Sums.{when, sum, Among}
 use Rattle.theory.specs.Lists.{_∈_, keep}
 use Rattle.theory.specs.Markets.{Table}
 use Rattle.theory.specs.Auction.{Auction, Buyer, whole}
@@ -21,8 +21,8 @@ use Rattle.numbers.specs.Numbers.{bit}
 use Rattle.numbers.proofs.Subsets.{bit-half}
 use Rattle.owners.specs.Owners.{allocations, bundleFrom, lacks, market, single, auction, member}
 use Rattle.owners.specs.Prices.{plain}
-use Rattle.owners.specs.Sales.{limit, Worths, Hall}
-use Rattle.owners.specs.Singles.{worth, AtMost, sale}
+use Rattle.owners.specs.Sales.{Worths, Hall}
+use Rattle.owners.specs.Singles.{worth, AtMost}
 use Rattle.owners.proofs.Owners.{allocation-from}
 use Rattle.owners.proofs.Bits.{half-of, low-bit, seats-ranked, ranked-numbered, plain-seated}
 use Rattle.owners.proofs.Economies.{economies-part, whole-in, lacking-in}
@@ -107,11 +107,11 @@ module _ (m n : ℕ) (few : m ≤ 6) (short : n ≤ 4) (os : List ℕ) (unsold :
 pub worth-small : (ws : List ℕ) (c i s : ℕ) → AtMost c ws → worth ws i s ≤ c
 worth-small ws c i s h = by-test (eqb s 0) (λ e. rw e (omega arith)) (λ e. rw e (h (16 * (i - 1) + s)))
 
-pub limit-small : (m n : ℕ) → m ≤ 6 → (ws : List ℕ) → AtMost 9999 ws → limit (sale m n) (plain m) (2 ^ n) (worth ws)
-    ≤ 59994
-limit-small m n few ws small =
+-- so much at most is a bundle worth to six buyers
+pub limit-small : (m s : ℕ) → m ≤ 6 → (ws : List ℕ) → AtMost 9999 ws → sum m 1 (λ i. worth ws i s) ≤ 59994
+limit-small m s few ws small =
     omega (
       arith,
       sum-const m 1 9999,
-      sum-mono m 1 (λ i. worth ws i (2 ^ n - 1)) (λ _. 9999) (λ i r. worth-small ws 9999 i (2 ^ n - 1) small),
+      sum-mono m 1 (λ i. worth ws i s) (λ _. 9999) (λ i r. worth-small ws 9999 i s small),
     )

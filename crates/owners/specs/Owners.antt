@@ -11,7 +11,6 @@ use Rattle.theory.specs.Sums.{when}
 use Rattle.theory.specs.Lists.{keep, upTo}
 use Rattle.theory.specs.Markets.{Market}
 use Rattle.theory.specs.Auction.{Economy, whole, lacking, Auction}
-use Rattle.theory.specs.Coalitions.{holder}
 pub use Rattle.numbers.specs.Numbers.{bit}
 
 -- the lists with one owner more in front, and with each of some owners
@@ -71,10 +70,6 @@ member n i = bit (i - 1) n
 unfoldable pub number : ℕ → ℕ → (ℕ → Bool) → ℕ
 number zero s t = 0
 number (suc k) s t = when (t s) 1 + 2 * number k (suc s) t
-
--- and of the buyers that own something
-abbrev pub holders : ℕ → List ℕ → ℕ
-holders m a = number m 1 (holder (market m single) a)
 
 -- the auction among m buyers; a bundle is within none but itself, since what a buyer loses may stay unsold
 abbrev pub auctionOf : ℕ → List (List ℕ) → (ℕ → ℕ) → ℕ → Auction (List ℕ)

@@ -1,18 +1,18 @@
 -- The rounds of a sale by coalition values. What a bidder has left is read off the prices of the bundle of all, the
 -- lowest undersupplied set follows from it and the values, and the raise from it and the worths. Offers `quickChoice`
--- and `quickStep`, which do what the definition's `choose` and `step` do along a sale; and of m buyers the `roster` and
--- the values of their sets.
+-- and `quickStep`, which do what the definition's `choose` and `step` do along a sale; and the roster of m buyers
+-- (`rosterIn`).
 use mathlib.Core.Bool.{Bool, true, _&&_}
 use mathlib.Core.List.{List}
 use Prim.Native.Nat.{ℕ, zero, suc, _+_, _-_, _*_, _/_, _^_}
-use lib.Dec.{eqb, ltb, leb}
+use lib.Dec.{ltb, leb}
 use lib.ListN.{getD}
 use Rattle.theory.specs.Sums.{when}
-use Rattle.theory.specs.Lists.{most, tabulate}
-use Rattle.theory.specs.Markets.{Table, total, without}
+use Rattle.theory.specs.Lists.{tabulate}
+use Rattle.theory.specs.Markets.{Table, without}
 use Rattle.theory.specs.Auction.{Auction}
 use Rattle.theory.specs.Coalitions.{Roster, rosterOf, lowestBy}
-use Rattle.owners.specs.Owners.{allocations, zeroFirst, market, single, member, holders}
+use Rattle.owners.specs.Owners.{member}
 use Rattle.owners.specs.Prices.{Seats, price}
 
 module _ (S : Seats) where
@@ -43,12 +43,9 @@ abbrev pub presentIn : ℕ → ℕ → Bool
 presentIn zero i = true
 presentIn (suc e) i = without (suc e) i
 
+-- m buyers, judged in the economies 0 to k; and in all economies
+abbrev pub rosterIn : ℕ → ℕ → Roster
+rosterIn m k = record { many = m; low = 1; member = member; sets = 2 ^ m; presents = tabulate (suc k) 0 presentIn }
+
 abbrev pub roster : ℕ → Roster
-roster m = record { many = m; low = 1; member = member; sets = 2 ^ m; presents = tabulate (suc m) 0 presentIn }
-
--- the total of an owner list if n is the number of its holders, and the value of set n: the greatest such total
-abbrev pub totalBy : ℕ → Table → ℕ → List ℕ → ℕ
-totalBy m v n a = when (eqb (holders m a) n) (total (market m single) v a)
-
-abbrev pub valueOf : ℕ → ℕ → Table → ℕ → ℕ
-valueOf m lots v n = most (totalBy m v n) (allocations (zeroFirst m) lots)
+roster m = rosterIn m m

@@ -1,12 +1,10 @@
 -- Single lots, of which some may stay unsold, by lists of ninety-six worths. Offers the table of such a list (`worth`),
--- what is asked of it (`AtMost`, `Topped`), and the auction of the lots (`sale`).
+-- and what is asked of it (`AtMost`, `Topped`).
 use mathlib.Core.List.{List}
 use Prim.Native.Nat.{ℕ, _-_, _^_, _≤_, _<_}
 use lib.ListN.{getD}
 use Rattle.theory.specs.Sums.{Among}
 use Rattle.theory.specs.Markets.{Table}
-use Rattle.theory.specs.Auction.{Auction}
-use Rattle.owners.specs.Owners.{zeroFirst, single, auction}
 use Rattle.owners.specs.Prices.{plain, price}
 
 -- the table of a list of worths, sixteen to a buyer, in which the empty bundle is worth nothing
@@ -20,7 +18,3 @@ AtMost c l = (k : ℕ) → getD l k 0 ≤ c
 -- all lots together are worth the most to each buyer
 abbrev pub Topped : ℕ → ℕ → List ℕ → Type 0
 Topped m n ws = (i : ℕ) → Among m 1 i → (s : ℕ) → s < 2 ^ n → worth ws i s ≤ worth ws i (2 ^ n - 1)
-
--- the auction of n lots among m buyers
-abbrev pub sale : ℕ → ℕ → Auction (List ℕ)
-sale m n = auction m n (zeroFirst m) single (2 ^ n - 1)

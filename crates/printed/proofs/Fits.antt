@@ -26,7 +26,7 @@ use Rattle.sheet.proofs.Theorems.{refusal-range}
 use Rattle.sheet.proofs.Long.{most-bytes}
 use Rattle.sheet.proofs.Forms.{asked-first, asked-yes}
 use Rattle.offers.specs.Offers.{Offer, offerOf, market, priceAt, revenue}
-use Rattle.offers.specs.Rounds.{roundLimit, saleSets, lastPrices, discountFor, paymentFor}
+use Rattle.offers.specs.Rounds.{roundLimit, startPrices, saleSets, lastPrices, discountFor, paymentFor}
 use Rattle.offers.specs.Places.{perBuyer}
 use Rattle.offers.proofs.Places.{per-buyer-at, per-buyer-past}
 use Rattle.sale.specs.declared.Sale.{Sale}
@@ -87,7 +87,7 @@ module _ (b : List ℕ) (accepted : sheetFault b .number ≡ 0) where
       omega (
         arith,
         sales.ascending O (regular b accepted) .few-rounds,
-        limit-small (w .buyers) (w .lots) (shape b accepted .few-buyers) (w .worths) (shape b accepted .small),
+        limit-small (w .buyers) (2 ^ w .lots - 1) (shape b accepted .few-buyers) (w .worths) (shape b accepted .small),
       )
 
   payment-small : (o o′ : List ℕ) (r : Sale) → SaleSays b o o′ r → r .number ≡ 0 → r ≡ settledSale O → (k : ℕ) →
@@ -120,8 +120,9 @@ owner-small b o o′ r says z few j =
     ])
 
 last-table : (b : List ℕ) → length (lastPrices (offerOf b)) ≡ 96
-unfolding lastPrices
-last-table b = sales.last-long (offerOf b) (roundLimit (offerOf b))
+unfolding startPrices lastPrices
+last-table b =
+    let O = offerOf b in sales.last-long O (O .buyers) (startPrices O) (roundLimit O) (length-replicate {A = ℕ} 96 0)
 
 settled-fits : (b o o′ : List ℕ) (r : Sale) → SaleSays b o o′ r → r .number ≡ 0 → Printable r
 unfolding settledSale
@@ -203,7 +204,7 @@ prints-fit b o o′ r says =
 -- no sheet asks for more than 59,994 bytes of record
 pub limit-low : (b : List ℕ) → sheetFault b .number ≡ 0 → roundLimit (offerOf b) ≤ 59994
 limit-low b z =
-    limit-small (sheetOf b .buyers) (sheetOf b .lots) (shape b z .few-buyers) (sheetOf b .worths) (shape b z .small)
+    limit-small (sheetOf b .buyers) (2 ^ sheetOf b .lots - 1) (shape b z .few-buyers) (sheetOf b .worths) (shape b z .small)
 
 -- with room for 59,994 rounds question 9 is answered yes
 module _ (b : List ℕ) (room : ℕ) (long : 59994 ≤ room) where

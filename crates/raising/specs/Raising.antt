@@ -1,14 +1,19 @@
--- The raise of a round, step by step: of one buyer's row of prices (`raisedRow`), the members that two sets have in
--- common (`Common`), and who is present in an economy, as a set (`AllBut`).
+-- The raise of a round, step by step, on tables of six rows (`Rows`): of one buyer's row of prices (`raisedRow`), the
+-- members that two sets have in common (`Common`), and who is present in an economy, as a set (`AllBut`).
 use mathlib.Core.Path.{_≡_}
 use mathlib.Core.List.{List}
 use Prim.Native.Nat.{ℕ, _^_, _≤_, _<_}
 use lib.Dec.{eqb}
+use lib.ListN.{length}
 use Rattle.theory.specs.Kept.{shared}
 use Rattle.owners.specs.Prices.{plain}
 use Rattle.owners.specs.Owners.{member}
 use Rattle.owners.specs.Quick.{raisedBy, presentIn, roster}
 use Rattle.owners.specs.Singles.{worth}
+
+-- a table of the buyers' six rows of sixteen numbers
+abbrev pub Rows : List ℕ → Type 0
+Rows t = length t ≡ 96
 
 -- the prices ps after a raise of buyer i alone, which has `left` left
 abbrev pub raisedRow : ℕ → List ℕ → ℕ → ℕ → List ℕ → List ℕ

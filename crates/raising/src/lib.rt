@@ -8,15 +8,16 @@ ghost use Rattle.owners.specs.Prices.{plain};
 ghost use Rattle.owners.specs.Quick.{left, raisedBy};
 ghost use Rattle.owners.specs.Singles.{worth, AtMost};
 ghost use Rattle.supply.specs.Supply.{owed, NextPayoffs, NextGains, NextRevenues, Keens, SmallGains, SmallRevenues};
-ghost use Rattle.raising.specs.Raising.{raisedRow, Common, AllBut};
+ghost use Rattle.raising.specs.Raising.{Rows, raisedRow, Common, AllBut};
 use numbers::has;
 use numbers::power;
 use numbers::wide;
 use supply::is_member;
 
 // What buyer i has left of its worth of all lots, whose bundle is `top`.
-fn payoff(worths: &[u16; 96], prices: &[u16; 96], i: usize, top: usize) -> u32
-    requires { ⌜ (1 ≤ i) × (i ≤ 6) × (1 ≤ top) × (top ≤ 15) × AtMost 9999 (now worths) ⌝ }
+fn payoff(worths: &[u16], prices: &[u16], i: usize, top: usize) -> u32
+    requires { ⌜ (1 ≤ i) × (i ≤ 6) × (1 ≤ top) × (top ≤ 15) × Rows (now worths) × Rows (now prices)
+        × AtMost 9999 (now worths) ⌝ }
     ensures { λ r. ⌜ Is (left (plain 6) (worth (now (worths .entry))) top (now (prices .entry)) i) r 9999 ⌝ }
 {
     let at = 16 * (i - 1) + top;
@@ -26,8 +27,9 @@ fn payoff(worths: &[u16; 96], prices: &[u16; 96], i: usize, top: usize) -> u32
 }
 
 // What each buyer has left; places of absent buyers hold 0.
-pub fn payoffs(worths: &[u16; 96], prices: &[u16; 96], buyers: usize, top: usize) -> [u32; 6]
-    requires { ⌜ (buyers ≤ 6) × (1 ≤ top) × (top ≤ 15) × AtMost 9999 (now worths) ⌝ }
+pub fn payoffs(worths: &[u16], prices: &[u16], buyers: usize, top: usize) -> [u32; 6]
+    requires { ⌜ (buyers ≤ 6) × (1 ≤ top) × (top ≤ 15) × Rows (now worths) × Rows (now prices)
+        × AtMost 9999 (now worths) ⌝ }
     ensures { λ r. ⌜ AtMost 9999 r × ((i : ℕ) → 1 ≤ i → i ≤ buyers →
         owed r i ≡ left (plain 6) (worth (now (worths .entry))) top (now (prices .entry)) i) ⌝ }
 {
@@ -41,12 +43,13 @@ pub fn payoffs(worths: &[u16; 96], prices: &[u16; 96], buyers: usize, top: usize
 }
 
 // Raises the prices of buyer i, which has so much left, for the bundles that it demands.
-fn raise_row(worths: &[u16; 96], prices: &mut [u16], i: usize, all: usize, left: u32)
-    requires { ⌜ (1 ≤ i) × (i ≤ 6) × (1 ≤ all) × (all ≤ 16) × (length (now prices) ≡ 96) × AtMost 60001 (now prices) ⌝ }
-    ensures { λ _. ⌜ now (prices .exit) ≡ raisedRow all (now (worths .entry)) i left (now (prices .entry)) ⌝ }
+fn raise_row(worths: &[u16], prices: &mut [u16], i: usize, bundles: usize, left: u32)
+    requires { ⌜ (1 ≤ i) × (i ≤ 6) × (1 ≤ bundles) × (bundles ≤ 16) × Rows (now worths) × Rows (now prices)
+        × AtMost 60001 (now prices) ⌝ }
+    ensures { λ _. ⌜ now (prices .exit) ≡ raisedRow bundles (now (worths .entry)) i left (now (prices .entry)) ⌝ }
 {
     let mut s: usize = 1;
-    while s < all {
+    while s < bundles {
         let at = 16 * (i - 1) + s;
         let p = prices[at];
         prices[at] = if left <= wide(worths[at]) { p + 1 } else { p };
@@ -56,22 +59,23 @@ fn raise_row(worths: &[u16; 96], prices: &mut [u16], i: usize, all: usize, left:
 
 // Raises the prices of each member for the bundles that it demands (rule 4.11).
 pub fn raise(
-    worths: &[u16; 96],
+    worths: &[u16],
     payoffs: &[u32; 6],
     prices: &mut [u16],
     buyers: usize,
-    all: usize,
+    bundles: usize,
     set: usize,
 )
-    requires { ⌜ (buyers ≤ 6) × (1 ≤ all) × (all ≤ 16) × (length (now prices) ≡ 96) × AtMost 60000 (now prices) ⌝ }
+    requires { ⌜ (buyers ≤ 6) × (1 ≤ bundles) × (bundles ≤ 16) × Rows (now worths) × Rows (now prices)
+        × AtMost 60000 (now prices) ⌝ }
     ensures { λ _. ⌜ now (prices .exit)
-        ≡ raisedBy (plain buyers) all (worth (now (worths .entry))) (member set) (owed (now (payoffs .entry)))
+        ≡ raisedBy (plain buyers) bundles (worth (now (worths .entry))) (member set) (owed (now (payoffs .entry)))
         (now (prices .entry)) ⌝ }
 {
     let mut i: usize = 1;
     while i <= buyers {
         if is_member(set, i) {
-            raise_row(worths, prices, i, all, payoffs[i - 1]);
+            raise_row(worths, prices, i, bundles, payoffs[i - 1]);
         }
         i += 1;
     }
@@ -125,15 +129,21 @@ fn all_but(absent: usize) -> usize
     63 - power(absent - 1)
 }
 
-// Adds to each economy's revenue how many members are present, less 1 if its word has not the set.
-pub fn raise_revenues(revenues: &mut [u32; 7], words: &[u64; 7], buyers: usize, set: usize)
-    requires { ⌜ (buyers ≤ 6) × (set < 2 ^ buyers) × (length (now revenues) ≡ 7)
-        × SmallRevenues buyers (now revenues) ⌝ }
+// Adds to the revenue of each economy, up to that of number `last`, how many members are present, less 1 if its word has not the set.
+pub fn raise_revenues(
+    revenues: &mut [u32; 7],
+    words: &[u64; 7],
+    buyers: usize,
+    last: usize,
+    set: usize,
+)
+    requires { ⌜ (buyers ≤ 6) × (last ≤ buyers) × (set < 2 ^ buyers) × (length (now revenues) ≡ 7)
+        × SmallRevenues last (now revenues) ⌝ }
     ensures { λ _. ⌜ (length (now (revenues .exit)) ≡ 7)
-        × NextRevenues buyers (now (revenues .entry)) (now (words .entry)) set (now (revenues .exit)) ⌝ }
+        × NextRevenues buyers last (now (revenues .entry)) (now (words .entry)) set (now (revenues .exit)) ⌝ }
 {
     let mut e: usize = 0;
-    while e <= buyers {
+    while e <= last {
         let up = revenues[e] + common(set, all_but(e));
         revenues[e] = if has(words[e], set) { up } else { up - 1 };
         e += 1;

@@ -17,7 +17,7 @@ use Rattle.theory.proofs.Lists.{tabulate-at, tabulate-same}
 use Rattle.theory.proofs.Coalitions.{lowest-same}
 use Rattle.owners.specs.Owners.{member}
 use Rattle.owners.specs.Prices.{plain}
-use Rattle.owners.specs.Quick.{left, rising, risenAt, raisedBy, roster}
+use Rattle.owners.specs.Quick.{left, rising, risenAt, raisedBy, rosterIn}
 use Rattle.owners.specs.Singles.{worth, AtMost}
 use Rattle.supply.specs.Supply.{shift, at, owed}
 use Rattle.raising.proofs.Rising.{raised-small}
@@ -29,11 +29,11 @@ module _ (m top : ℕ) (ws ps r : List ℕ)
   owed-same : (i : ℕ) → Among m 1 i → owed r i ≡ left (plain 6) (worth ws) top ps i
   owed-same i q = same i (omega arith) (omega arith)
 
-  pub chosen-at : (values : List ℕ) (x : ℕ) → x ≡ lowestBy (roster m) shift (at values) (owed r) → x
-      ≡ lowestAt m top ws values ps
+  pub chosen-at : (l : ℕ) (values : List ℕ) (x : ℕ) → x ≡ lowestBy (rosterIn m l) shift (at values) (owed r) → x
+      ≡ lowestAt m l top ws values ps
   unfolding lowestAt
-  chosen-at values x e =
-      e ∙ lowest-same (roster m) shift (at values) (owed r) (left (plain m) (worth ws) top ps) owed-same
+  chosen-at l values x e =
+      e ∙ lowest-same (rosterIn m l) shift (at values) (owed r) (left (plain m) (worth ws) top ps) owed-same
 
   rising-same : (all x j s : ℕ) →
       rising (plain m) all (worth ws) (member x) (owed r) j s

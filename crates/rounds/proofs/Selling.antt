@@ -1,146 +1,161 @@
--- The rounds by coalition values are the sale's: what they did (`Done`) is what `Sold` says. Assumes what `Opens` says
--- of the worths, and a table of the values.
-use mathlib.Core.Path.{_≡_, refl, sym, ap, subst, _∙_}
+-- The rounds by coalition values are an offer's: what they did (`Done`) is what `Sold` says, for whatever offer the
+-- words are of. Assumes what `Opens` says, own prices to start from, and a table of the values that the words give
+-- (`Valued`).
+use mathlib.Core.Path.{_≡_, sym, ap, subst, _∙_}
+use mathlib.Core.Bool.{Bool}
 use mathlib.Core.List.{List}
-use Prim.Native.Nat.{ℕ, _-_, _^_, _≤_}
+use Prim.Native.Nat.{ℕ, _+_, _-_, _*_, _^_, _≤_}
 use native.Mathlib.Omega.{arith}
 use lib.Dec.{eqb}
 use lib.ListN.{length, getD}
-use lib.Pow.{pow-mono}
+use Rattle.theory.specs.Lists.{most, over}
+use Rattle.theory.specs.Markets.{Table}
 use Rattle.theory.specs.Rounds.{choices, after}
-use Rattle.theory.specs.Coalitions.{Values, Roster, lowestBy}
-use Rattle.theory.specs.Lists.{most}
-use Rattle.theory.specs.Markets.{total}
+use Rattle.theory.specs.Auction.{Auction}
+use Rattle.theory.specs.Coalitions.{Values, holder, lowestBy}
 use Rattle.theory.proofs.Sums.{sum-mono, sum-const}
 use Rattle.theory.proofs.Tests.{by-test}
-use Rattle.theory.proofs.Lists.{zeros-at, most-bound}
-use Rattle.theory.proofs.Coalitions.{values-same}
-use Rattle.owners.specs.Owners.{allocations, zeroFirst, bundleFrom, single, market, holders}
-use Rattle.owners.specs.Prices as prices
-use Rattle.owners.specs.Prices.{plain}
-use Rattle.owners.specs.Sales.{choose, sets, lastPrices, limit}
-use Rattle.owners.specs.Quick.{left, roster, totalBy, valueOf}
-use Rattle.owners.specs.Singles.{worth, AtMost, sale}
-use Rattle.offers.specs.Offers.{lotsAmong}
-use Rattle.offers.specs.Rounds.{startPrices, setsFrom, pricesFrom}
-use Rattle.theory.specs.Lists.{over}
-use Rattle.owners.proofs.Quick.{quick-rounds, quick-last, quick-settled, roster-is, walk-values}
-use Rattle.owners.proofs.Singles.{worth-small, limit-small}
-use Rattle.offers.proofs.Lots.{lots-regular}
-use Rattle.lists.specs.Words.{lotWords}
-use Rattle.lists.proofs.Packed.{lots-packed}
-use Rattle.totals.specs.Totals.{wordTotalBy}
+use Rattle.theory.proofs.Lists.{most-bound}
+use Rattle.theory.proofs.Coalitions.{exact-values, values-same}
+use Rattle.owners.specs.Owners.{member, number}
+use Rattle.owners.specs.Prices.{row, entry, plain}
+use Rattle.owners.specs.Sales.{sets, lastPrices, limit}
+use Rattle.owners.specs.Quick.{left, rosterIn}
+use Rattle.owners.specs.Singles.{worth, AtMost}
+use Rattle.owners.proofs.Quick.{quick-rounds, quick-last, presents-are}
+use Rattle.owners.proofs.Bits.{number-below, number-bit}
+use Rattle.owners.proofs.Singles.{limit-small}
+use Rattle.offers.specs.Offers.{Offer, market, worthOf, judgedIn}
+use Rattle.offers.specs.Rounds.{setsFrom, pricesFrom}
+use Rattle.offers.specs.Claims.{Regular}
+use Rattle.offers.proofs.Economies.{judged-regular}
+use Rattle.lists.specs.Words.{digit, wordsOf, Packed, Lent}
+use Rattle.totals.specs.Totals.{wordHolders, wordTotal, wordTotalBy}
 use Rattle.totals.proofs.Listed.{value-found}
-use Rattle.rounds.specs.declared.State.{State}
 use Rattle.supply.specs.Supply.{shift, at}
-use Rattle.rounds.specs.Rounds.{zeros, Tables, KeptAt, Valued, Opens, Sold, lowestAt, stepAt}
+use Rattle.rounds.specs.Rounds.{Tables, KeptAt, Opens, Own, Sold, lowestAt, stepAt}
 use Rattle.rounds.proofs.Going.{Going, Done}
 
-pub start-none : AtMost 0 zeros
-unfolding zeros
-start-none k = omega (arith, zeros-at 96 k)
+-- the values that the words of all allocations give, and that they are small
+abbrev pub Valued : ℕ → List ℕ → List ℕ → List ℕ → Type 0
+Valued m ws list values = (k : ℕ) → getD values k 0 ≡ most (wordTotalBy 1 m ws k) list
 
-pub start-long : length zeros ≡ 96
-unfolding zeros
-start-long = refl
+entry-small : (ws : List ℕ) (i s : ℕ) → AtMost 9999 ws → entry ws i s ≤ 9999
+entry-small ws i s h = by-test (eqb s 0) (λ e. rw e (omega arith)) (λ e. rw e (h (16 * row i + s)))
 
--- the table of values, by the words of all allocations
-total-small : (m : ℕ) (ws a : List ℕ) → m ≤ 6 → AtMost 9999 ws → total (market m single) (worth ws) a ≤ 59994
-total-small m ws a few h =
+total-small : (m : ℕ) (ws : List ℕ) (w : ℕ) → m ≤ 6 → AtMost 9999 ws → wordTotal 1 m ws w ≤ 59994
+total-small m ws w few h =
     omega (
       arith,
       sum-const m 1 9999,
-      sum-mono m 1 (λ i. worth ws i (bundleFrom single 0 i a)) (λ _. 9999)
-          (λ i r. worth-small ws 9999 i (bundleFrom single 0 i a) h),
+      sum-mono m 1 (λ i. entry ws i (digit i w)) (λ _. 9999) (λ i r. entry-small ws i (digit i w) h),
     )
 
-pub valued : (m n : ℕ) (ws l values : List ℕ) → m ≤ 6 → n ≤ 4 → AtMost 9999 ws → l ≡ lotWords m n →
-    ((k : ℕ) → getD values k 0 ≡ most (wordTotalBy 1 m ws k) l) → Valued m n ws values
-valued m n ws l values few short h words found =
-    let is : (k : ℕ) → getD values k 0 ≡ valueOf m n (worth ws) k =
-    λ k. value-found (lotsAmong m n ws) (lots-packed m n ws few short) l words ws k (getD values k 0) (found k) in
-    record {
-      is = is;
-      small = λ k. omega (
-        arith,
-        is k,
-        most-bound (totalBy m (worth ws) k) 59994 (allocations (zeroFirst m) n) (λ a _.
-            by-test (eqb (holders m a) k) (λ e. rw e (total-small m ws a few h)) (λ e. rw e (omega arith))),
-      );
-    }
-
--- what stays the same in all rounds of a sale
-pub record Known (m all : ℕ) (ws values : List ℕ) : Type 0 where
-  pub few : m ≤ 6
-  pub two : 2 ≤ all
-  pub short : all ≤ 16
-  pub worths : AtMost 9999 ws
-  pub totals : AtMost 59994 values
-
--- `all` is the number of bundles
-pub known : {m n f all : ℕ} {ws values o : List ℕ} → Opens m n ws f o → Valued m n ws values → all ≡ 2 ^ n →
-    Known m all ws values
-known {n = n} opens valued e =
-    record {
-      few = opens .few-buyers;
-      two = omega (arith, pow-mono {i = 1} {j = n} (opens .some-lots));
-      short = omega (arith, pow-mono {i = n} {j = 4} (opens .few-lots));
-      worths = opens .small;
-      totals = valued .small;
-    }
+pub valued-small : (m : ℕ) (ws list values : List ℕ) → m ≤ 6 → AtMost 9999 ws → Valued m ws list values →
+    AtMost 59994 values
+valued-small m ws list values few h valued k =
+    omega (
+      arith,
+      valued k,
+      most-bound (wordTotalBy 1 m ws k) 59994 list
+          (λ w _. by-test (eqb (wordHolders m w) k) (λ e. rw e (total-small m ws w few h)) (λ e. rw e (omega arith))),
+    )
 
 -- rounds that go on, by some table of the values, with what is kept at their prices
-pub record Running (m n all : ℕ) (ws : List ℕ) (f : ℕ) (o l : List ℕ) (s : State) (k : Tables) : Type 0 where
+pub record Running (m l all : ℕ) (list ws start : List ℕ) (f c : ℕ) (o ps log : List ℕ) (n : ℕ)
+    (k : Tables) : Type 0 where
   pub values : List ℕ
-  pub valued : Valued m n ws values
-  pub going : Going (lowestAt m (all - 1) ws values) (stepAt m all ws) f zeros o l (s .prices) (s .rounds)
-  pub kept : KeptAt m (all - 1) ws values (s .prices) k
+  pub valued : Valued m ws list values
+  pub going : Going (lowestAt m l (all - 1) ws values) (stepAt m all ws) f c start o ps log n
+  pub kept : KeptAt m l (all - 1) ws values ps k
 
-module _ (m n f : ℕ) (ws values o : List ℕ) (opens : Opens m n ws f o) (valued : Valued m n ws values) where
-  abbrev al : List (List ℕ)
-  al = allocations (zeroFirst m) n
+-- an offer to m buyers
+module _ (m all n : ℕ) (share : ℕ → ℕ) (al : List (List ℕ)) (ws : List ℕ) where
+  abbrev offer : Offer
+  offer = record { buyers = m; low = 1; lots = n; bundles = all; share = share; lists = al; worths = ws }
 
-  -- the rounds by a roster, from the zeros on
-  abbrev chooseBy : Roster → List ℕ → ℕ
-  chooseBy R ps = lowestBy R shift (at values) (left (plain m) (worth ws) (2 ^ n - 1) ps)
+  module _
+      (few : m ≤ 6) (small : AtMost 9999 ws) (regular : Regular offer) (packed : Packed offer) (list : List ℕ)
+      (words : list ≡ wordsOf offer) (values : List ℕ) (valued : Valued m ws list values) (l : ℕ) (judged : l ≤ m)
+      (start : List ℕ) (own : Own offer start) (f : ℕ) where
+    abbrev X : Auction (List ℕ)
+    X = judgedIn offer l
 
-  pub Agrees : Roster → Type 0
-  Agrees R =
-      let zs = prices.zeros (plain m) in
-      let v = worth ws in
-      let last = lastPrices (sale m n) (plain m) (2 ^ n) v zs f in
-      (choices (chooseBy R) (stepAt m (2 ^ n) ws) f zs ≡ sets (sale m n) (plain m) (2 ^ n) v zs f)
-      × (after (stepAt m (2 ^ n) ws) zs (choices (chooseBy R) (stepAt m (2 ^ n) ws) f zs) ≡ last)
-      × (choose (sale m n) (plain m) (2 ^ n) v last ≡ chooseBy R last)
+    abbrev v : Table
+    v = worthOf offer
 
-  agrees : Agrees (roster m)
-  unfolding Agrees
-  agrees =
-      let good =
-      lots-regular m n ws (opens .few-buyers) (opens .few-lots) (λ k. omega (arith, opens .small k)) (opens .topped) in
-      let hall = good .hall in
-      let worths = good .worths in
-      let found : Values (sale m n) (worth ws) al (at values) =
-      values-same (sale m n) (worth ws) al (at values) (valueOf m n (worth ws)) (λ k _. valued .is k)
-      (walk-values m n (worth ws) (2 ^ n - 1)) in
-      let wide : limit (sale m n) (plain m) (2 ^ n) (worth ws)
-      ≤ shift = omega (arith, limit-small m n (opens .few-buyers) ws (opens .small)) in
-      subst Agrees (roster-is m al single (2 ^ n - 1)) (
-        quick-rounds (sale m n) (plain m) (2 ^ n) m al hall (worth ws) worths (at values) found shift wide f,
-        quick-last (sale m n) (plain m) (2 ^ n) m al hall (worth ws) worths (at values) found shift wide f,
-        quick-settled (sale m n) (plain m) (2 ^ n) m al hall (worth ws) worths (at values) found shift wide f,
-      )
+    -- the rounds by a roster
+    abbrev chooseBy : List (ℕ → Bool) → List ℕ → ℕ
+    chooseBy presents ps =
+        lowestBy (record { many = m; low = 1; member = member; sets = 2 ^ m; presents = presents }) shift (at values)
+        (left (plain m) (worth ws) (all - 1) ps)
 
-pub sold : {m n f all : ℕ} {ws values o l : List ℕ} {r : State} → Opens m n ws f o → Valued m n ws values → all
-    ≡ 2 ^ n →
-    Done (lowestAt m (all - 1) ws values) (stepAt m all ws) f zeros o l r → Sold (lotsAmong m n ws) f o l r
-unfolding Agrees lowestAt zeros startPrices setsFrom pricesFrom
-sold {m} {n} {f} {ws = ws} {values} {o} opens valued e done =
-    let d = rw e at done in
-    let (same, last, end) = agrees m n f ws values o opens valued in
-    record {
-      prices = d .prices ∙ last;
-      rounds = d .rounds ∙ ap length same;
-      settled = d .settled ∙ ap (λ ps. eqb (lowestAt m (2 ^ n - 1) ws values ps) 0) last ∙ ap (λ c. eqb c 0) (sym end);
-      bytes = d .bytes ∙ ap (λ s. over s o) same;
-    }
+    pub Agrees : List (ℕ → Bool) → Type 0
+    Agrees presents =
+        (choices (chooseBy presents) (stepAt m all ws) f start ≡ sets X (plain m) all v start f)
+        × (after (stepAt m all ws) start (choices (chooseBy presents) (stepAt m all ws) f start)
+        ≡ lastPrices X (plain m) all v start f)
+
+    found : Values X v al (at values)
+    found =
+        values-same X v al (at values) _
+        (λ k _. value-found offer packed list words ws k (getD values k 0) (valued k))
+        (exact-values X v (regular .some 0 .1) (λ a. number m 1 (holder (market offer) a))
+        (λ a k. (
+          number-below m 1 (holder (market offer) a),
+          λ i r. number-bit m 1 (holder (market offer) a) (i - 1) (omega arith)
+              ∙ ap (holder (market offer) a) (omega arith),
+        )))
+
+    wide : limit X (plain m) all v ≤ shift
+    wide = omega (arith, limit-small m (all - 1) few ws small)
+
+    agrees : Agrees (rosterIn m l .presents)
+    unfolding Agrees
+    agrees =
+        let (setting, worths) = judged-regular offer regular l judged in
+        subst Agrees (presents-are al m l) (
+          quick-rounds X (plain m) all m al setting v worths (at values) found shift wide start (own .0) (own .1) f,
+          quick-last X (plain m) all m al setting v worths (at values) found shift wide start (own .0) (own .1) f,
+        )
+
+    pub sold-by : {o ps′ o′ : List ℕ} {k : ℕ} →
+        Done (lowestAt m l (all - 1) ws values) (stepAt m all ws) f start o ps′ o′ k →
+        Sold offer l start f o ps′ o′ k
+    unfolding Agrees lowestAt setsFrom pricesFrom
+    sold-by {o} done =
+        record {
+          prices = done .prices ∙ agrees .1;
+          rounds = done .rounds ∙ ap length (agrees .0);
+          bytes = done .bytes ∙ ap (λ s. over s o) (agrees .0);
+        }
+
+-- whatever offer the words are of
+offer-is : {O : Offer} {list ws : List ℕ} {m all : ℕ} → Lent O list ws 1 m all →
+    offer m all (O .lots) (O .share) (O .lists) ws ≡ O
+offer-is {O} {ws = ws} {m} {all} lent =
+    ap (λ m. offer m all (O .lots) (O .share) (O .lists) ws) (lent .buyers)
+    ∙ ap (λ all. offer (O .buyers) all (O .lots) (O .share) (O .lists) ws) (lent .bundles)
+    ∙ ap (offer (O .buyers) (O .bundles) (O .lots) (O .share) (O .lists)) (lent .worths)
+    ∙ ap (λ low. record {
+      buyers = O .buyers;
+      low = low;
+      lots = O .lots;
+      bundles = O .bundles;
+      share = O .share;
+      lists = O .lists;
+      worths = O .worths;
+    }) (lent .low)
+
+pub sold : {m l all f : ℕ} {ws start list o ps′ o′ : List ℕ} {k : ℕ} (values : List ℕ) →
+    Opens m l all ws start f o →
+    Valued m ws list values → Done (lowestAt m l (all - 1) ws values) (stepAt m all ws) f start o ps′ o′ k →
+    (O : Offer) → Lent O list ws 1 m all → Own O start → Sold O l start f o ps′ o′ k
+sold {m} {l} {all} {f} {ws} {start} {list} {o} {ps′} {o′} {k} values opens valued done O lent own =
+    let same = offer-is lent in
+    let back : (P : Offer → Type 0) → P O → P (offer m all (O .lots) (O .share) (O .lists) ws) =
+    λ P p. subst P (sym same) p in
+    subst (λ O. Sold O l start f o ps′ o′ k) same
+    (sold-by m all (O .lots) (O .share) (O .lists) ws (opens .few) (opens .small) (back Regular (lent .regular))
+    (back Packed (lent .packed)) list (back (λ O. list ≡ wordsOf O) (lent .words)) values valued l (opens .judged) start
+    (back (λ O. Own O start) own) f done)

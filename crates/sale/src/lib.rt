@@ -1,11 +1,6 @@
 // What sales and demand answers answer, and their refusals. The meaning is in specs/, the theorems in proofs/.
 ghost use mathlib.Core.Path.{_≡_};
-ghost use Prim.Native.Nat.{_≤_};
-ghost use Rattle.numbers.specs.Numbers.{Is};
-ghost use Rattle.owners.specs.Singles.{AtMost};
 ghost use Rattle.sheet.specs.Questions.{fault};
-ghost use Rattle.offers.specs.Offers.{lotsAmong};
-ghost use Rattle.offers.specs.Rounds.{roundLimit};
 ghost use Rattle.sale.specs.Answers.{refusedDemand, refusedSale, OneAnswer, Sales};
 
 // A refusal, or a buyer's demand set and whether it is keen.
@@ -56,21 +51,6 @@ pub fn refused_sale(number: u8, place: u32) -> Sale
         discounts: [0; 6],
         payments: [0; 6],
     }
-}
-
-// Question 9's sum (rule 3.9).
-pub fn round_limit(worths: &[u16; 96], m: usize, n: usize) -> u32
-    requires { ⌜ (m ≤ 6) × (1 ≤ n) × (n ≤ 4) × AtMost 9999 (now worths) ⌝ }
-    ensures { λ r. ⌜ Is (roundLimit (lotsAmong m n (now (worths .entry)))) r 59994 ⌝ }
-{
-    let top = numbers::power(n) - 1;
-    let mut total: u32 = 0;
-    let mut i: usize = 1;
-    while i <= m {
-        total += tables::entry(worths, i, top);
-        i += 1;
-    }
-    total
 }
 
 // Does nothing. Its contract has the theorems about sales, demand 2 among them, so that none can be dropped unseen.

@@ -1,15 +1,15 @@
 // Sales by rounds of a lot sheet, and demand answers.
 ghost use mathlib.Core.Path.{_≡_};
+ghost use Prim.Native.Nat.{_≤_};
+ghost use lib.ListN.{length};
 ghost use Rattle.theory.specs.Lists.{over};
 ghost use Rattle.offers.specs.Offers.{lotsAmong};
 ghost use Rattle.offers.specs.Rounds.{roundLimit, saleSets};
 ghost use Rattle.lists.specs.Words.{lotWords};
-ghost use Rattle.rounds.specs.Rounds.{Opens};
 ghost use Rattle.sale.specs.Answers.{settledSale, demandAnswer, SaleSays};
-ghost use Rattle.selling.specs.Selling.{soldBy};
+ghost use Rattle.selling.specs.Selling.{soldBy, Sells};
 use closing::Closing;
 use numbers::power;
-use rounds::State;
 use sale::Demand;
 use sale::Sale;
 
@@ -35,11 +35,10 @@ pub fn buyer_demand(sheet: &[u8], buyer: u32, prices: [u16; 96]) -> Demand
     }
 }
 
-// A settled sale, of its rounds and its closing.
-fn settled(buyers: u8, lots: u8, s: State, c: Closing) -> Sale
-    ensures { λ r. ⌜ r ≡ soldBy buyers lots s c ⌝ }
+// A settled sale, of its rounds, its last prices and its closing.
+fn settled(buyers: u8, lots: u8, rounds: u32, prices: [u16; 96], c: Closing) -> Sale
+    ensures { λ r. ⌜ r ≡ soldBy buyers lots rounds prices c ⌝ }
 {
-    let prices = s.prices;
     let owners = c.owners;
     let discounts = c.discounts;
     let payments = c.payments;
@@ -48,7 +47,7 @@ fn settled(buyers: u8, lots: u8, s: State, c: Closing) -> Sale
         place: 0,
         buyers,
         lots,
-        rounds: s.rounds,
+        rounds,
         prices,
         owners,
         discounts,
@@ -56,19 +55,19 @@ fn settled(buyers: u8, lots: u8, s: State, c: Closing) -> Sale
     }
 }
 
-// The rounds of a sale and its closing, by the words of all allocations.
-fn sell(list: &[u64], worths: &[u16; 96], buyers: u8, lots: u8, log: &mut [u8], limit: u32) -> Sale
-    requires { ⌜ Opens buyers lots (now worths) limit (now log) × (now list ≡ lotWords buyers lots)
-        × (limit ≡ roundLimit (lotsAmong buyers lots (now worths))) ⌝ }
+// The rounds of a sale, from zeros on (rule 1.6), and its closing, by the words of all allocations.
+fn sell(list: &[u64], worths: &[u16], buyers: u8, lots: u8, log: &mut [u8], limit: u32) -> Sale
+    requires { ⌜ Sells buyers lots (now worths) × (now list ≡ lotWords buyers lots)
+        × (limit ≡ roundLimit (lotsAmong buyers lots (now worths))) × (limit ≤ length (now log)) ⌝ }
     ensures { λ r. ⌜ (r ≡ settledSale (lotsAmong buyers lots (now (worths .entry))))
         × (now (log .exit) ≡ over (saleSets (lotsAmong buyers lots (now (worths .entry)))) (now (log .entry))) ⌝ }
 {
     let m = buyers as usize;
-    let n = lots as usize;
-    let s = rounds::run_rounds(list, worths, m, n, log, limit);
-    let last = s.prices;
-    let c = closing::close_sale(list, worths, &last, 1, m, power(n));
-    settled(buyers, lots, s, c)
+    let all = power(lots as usize);
+    let mut prices = [0u16; 96];
+    let n = rounds::run_rounds(list, worths, &mut prices, m, m, all, log, limit);
+    let c = closing::close_sale(list, worths, &prices, 1, m, all);
+    settled(buyers, lots, n, prices, c)
 }
 
 // Runs the sale of a sheet. Each round writes its set's number to the record's next byte.
@@ -82,7 +81,7 @@ pub fn run_sale(sheet: &[u8], log: &mut [u8]) -> Sale
     let worths = read.worths;
     let m = read.buyers as usize;
     let n = read.lots as usize;
-    let limit = sale::round_limit(&worths, m, n);
+    let limit = totals::limit_of(&worths, 1, m, power(n));
     if log.len() < limit as usize {
         return sale::refused_sale(9, 0);
     }

@@ -118,9 +118,9 @@ module _ (m : ℕ) (rs : List ℕ) (g k : ℕ) (old : List ℕ) where
           (ap (λ x. bitOr x s) (so-far .rest e (omega arith)))))
 
 -- the scan of all sets: what each word has, and the sets from k on add
-module _ (m : ℕ) (gs rs : List ℕ) (sets : ℕ) where
+module _ (m last : ℕ) (gs rs : List ℕ) (sets : ℕ) where
   pub Scanned : ℕ → List ℕ → Type 0
-  Scanned k words = (e : ℕ) → e ≤ m → (n : ℕ) → n < 2 ^ m →
+  Scanned k words = (e : ℕ) → e ≤ last → (n : ℕ) → n < 2 ^ m →
       (bit n (at words e) || some (λ k. reaches m (at gs k) (at rs e) e n k) (upTo (sets - k) k))
       ≡ reached m gs (at rs e) e n
 
@@ -129,7 +129,7 @@ module _ (m : ℕ) (gs rs : List ℕ) (sets : ℕ) where
   scan-start words none es e h n l = rw (none e) (reach-start m sets n (λ k. reaches m (at gs k) (at rs e) e n k) es)
 
   module _ (k : ℕ) (words words′ : List ℕ) (so-far : Scanned k words) where
-    pub scan-more : k < sets → (more : List ℕ) → Joins m rs (at gs k) k words more → words′ ≡ more →
+    pub scan-more : k < sets → (more : List ℕ) → Joins m last rs (at gs k) k words more → words′ ≡ more →
         Scanned (k + 1) words′
     unfolding Scanned
     scan-more h more joins ew e l n q =
@@ -138,14 +138,14 @@ module _ (m : ℕ) (gs rs : List ℕ) (sets : ℕ) where
         (ap (λ w. bit n (at w e)) ew ∙ joins e l n q)
 
     -- a set that gains less than each revenue adds nothing
-    pub scan-pass : k < sets → (least : ℕ) → Under m rs least → at gs k < least → words′ ≡ words →
+    pub scan-pass : k < sets → (least : ℕ) → Under last rs least → at gs k < least → words′ ≡ words →
         Scanned (k + 1) words′
     scan-pass h least under less ew =
         scan-more h words
         (λ e l n q.
         reach-lower m (at gs k) (at rs e) e n k (at words e) (at words e) (λ z. omega (arith, under e l)) refl) ew
 
-    pub scan-end : sets ≤ k → Supplied m gs rs words
+    pub scan-end : sets ≤ k → Supplied m last gs rs words
     unfolding Scanned
     scan-end h e l n q =
         some-done sets k h (λ k. reaches m (at gs k) (at rs e) e n k) (bit n (at words e)) _ (so-far e l n q)
@@ -200,16 +200,17 @@ not-second true b p = rw p
 not-second false b p = refl
 
 -- the lowest set by words
-pub words-lowest : (m : ℕ) (words ps : List ℕ) (sets k w all r : ℕ) → m ≤ 6 → sets ≡ 2 ^ m → Keen m ps k →
+pub words-lowest : (m last : ℕ) (words ps : List ℕ) (sets k w all r : ℕ) → m ≤ 6 → sets ≡ 2 ^ m → Keen m ps k →
     Word 6 (among 6 k) w →
-    Word m (λ n. every (m + 1) 0 (λ e. bit n (at words e))) all →
-    r ≡ least sets 0 (λ n. bit n w && not (bit n all)) → r ≡ lowestIn m words ps
-words-lowest m words ps sets k w all r few es keen kw aw er =
+    Word 6 (λ n. every (last + 1) 0 (λ e. bit n (at words e))) all →
+    r ≡ least sets 0 (λ n. bit n w && not (bit n all)) → r ≡ lowestIn m last words ps
+words-lowest m last words ps sets k w all r few es keen kw aw er =
     er ∙ ap (λ s. least s 0 (λ n. bit n w && not (bit n all))) es ∙
     least-same (2 ^ m) 0 _ _ (λ n h.
     let l : n < 2 ^ m = omega arith in
+    let low : n < 64 = omega (arith, pow-mono {i = m} {j = 6} few) in
     let a : bit n w ≡ every m 1 (λ i. member n i ⊃ leb 1 (owed ps i)) =
-    kw n (omega (arith, pow-mono {i = m} {j = 6} few)) ∙ among-fewer m k n few l ∙
+    kw n low ∙ among-fewer m k n few l ∙
     every-same m 1 (λ i. member n i ⊃ member k i) (λ i. member n i ⊃ leb 1 (owed ps i))
     (λ i q. rw (keen .is i (omega arith) (omega arith))) in
-    rw (a, aw n l))
+    rw (a, aw n low))

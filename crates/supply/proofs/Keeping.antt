@@ -25,7 +25,7 @@ use Rattle.theory.proofs.Coalitions.{gain-exact, gain-same, revenue-same, insid
 use Rattle.theory.proofs.Kept.{kept-gains, kept-revenues, lowest-keen}
 use Rattle.numbers.specs.Numbers.{bit}
 use Rattle.owners.specs.Owners.{member}
-use Rattle.owners.specs.Quick.{presentIn, roster}
+use Rattle.owners.specs.Quick.{presentIn, rosterIn, roster}
 use Rattle.owners.specs.Singles.{AtMost}
 use Rattle.owners.proofs.Quick.{roster-ranks}
 use Rattle.supply.specs.Supply.{shift, at, owed, Gains, Revenues, reaches, Supplied, lowestIn, Keeps}
@@ -44,9 +44,9 @@ not-every (suc k) s t f u h =
     not-and false y = refl
 
 -- the tables of the first payoffs
-pub keeps-start : (m : ℕ) (values ps gs rs : List ℕ) → AtMost 9999 ps → Gains m values ps gs → Revenues m gs rs →
-    Keeps m values ps gs rs
-keeps-start m values ps gs rs small gains revenues =
+pub keeps-start : (m l : ℕ) (values ps gs rs : List ℕ) → AtMost 9999 ps → Gains m values ps gs → Revenues m l gs rs →
+    Keeps m l values ps gs rs
+keeps-start m l values ps gs rs small gains revenues =
     record {
       small = small;
       gains = gains;
@@ -58,29 +58,29 @@ keeps-start m values ps gs rs small gains revenues =
     }
 
 -- the lowest set by words is one of the buyers there are, and its members are keen
-pub lowest-below : (m : ℕ) (words ps : List ℕ) (x : ℕ) → lowestIn m words ps ≡ suc x → x < 2 ^ m
-lowest-below m words ps x e = omega (arith, least-found (2 ^ m) 0 _ x e .among)
+pub lowest-below : (m l : ℕ) (words ps : List ℕ) (x : ℕ) → lowestIn m l words ps ≡ suc x → x < 2 ^ m
+lowest-below m l words ps x e = omega (arith, least-found (2 ^ m) 0 _ x e .among)
 
-pub lowest-keens : (m : ℕ) (words ps : List ℕ) (x : ℕ) → lowestIn m words ps ≡ suc x → Keens m ps x
-lowest-keens m words ps x e i lo hi =
+pub lowest-keens : (m l : ℕ) (words ps : List ℕ) (x : ℕ) → lowestIn m l words ps ≡ suc x → Keens m ps x
+lowest-keens m l words ps x e i lo hi =
     let keens : ℕ → Bool = λ n. every m 1 (λ i. member n i ⊃ leb 1 (owed ps i)) in
-    let lacks : ℕ → Bool = λ n. not (every (m + 1) 0 (λ e. bit n (at words e))) in
+    let lacks : ℕ → Bool = λ n. not (every (l + 1) 0 (λ e. bit n (at words e))) in
     let passes = least-found (2 ^ m) 0 (λ n. keens n && lacks n) x e .passes in
     every-means m 1 (λ i r. imp-means (itself (member x i)) (leb-means 1 (owed ps i))) .0
     (and-means (itself (keens x)) (itself (lacks x)) .0 passes .0) i (omega arith)
 
-module _ (m : ℕ) (few : m ≤ 6) (values ps gs rs : List ℕ) (keeps : Keeps m values ps gs rs) where
+module _ (m l : ℕ) (few : m ≤ 6) (values ps gs rs : List ℕ) (keeps : Keeps m l values ps gs rs) where
   narrow : sum m 1 (owed ps) ≤ 59994
   narrow = omega (arith, sum-mono m 1 (owed ps) (λ _. 9999) (λ i r. keeps .small (i - 1)), sum-const m 1 9999)
 
   wide : sum m 1 (owed ps) ≤ shift
   wide = omega (arith, narrow)
 
-  module _ (words : List ℕ) (supplied : Supplied m gs rs words) where
-    pub keeps-supplied : (e n : ℕ) → e ≤ m → n < 2 ^ m →
+  module _ (words : List ℕ) (supplied : Supplied m l gs rs words) where
+    pub keeps-supplied : (e n : ℕ) → e ≤ l → n < 2 ^ m →
         bit n (at words e) ≡ suppliedBy (roster m) shift (at values) (owed ps) n (presentIn e)
-    keeps-supplied e n h l =
-        supplied e h n l
+    keeps-supplied e n h below =
+        supplied e h n below
         ∙ some-same (λ k. reaches m (at gs k) (at rs e) e n k)
         (λ k. inside (roster m) (presentIn e) k
         && (covers (roster m) (presentIn e) n k
@@ -88,11 +88,11 @@ module _ (m : ℕ) (few : m ≤ 6) (values ps gs rs : List ℕ) (keeps : Keeps m
         (revenue (roster m) shift (at values) (owed ps) (presentIn e))))
         (upTo (2 ^ m) 0) (λ k r. rw (keeps .gains k (omega (arith, upTo-from (2 ^ m) 0 r)), keeps .revenues e h))
 
-    pub keeps-lowest : lowestIn m words ps ≡ lowestBy (roster m) shift (at values) (owed ps)
+    pub keeps-lowest : lowestIn m l words ps ≡ lowestBy (rosterIn m l) shift (at values) (owed ps)
     keeps-lowest =
         least-same (2 ^ m) 0 _ _ (λ n r. ap (λ t. every m 1 (λ i. member n i ⊃ leb 1 (owed ps i)) && t)
-        (ap (λ k. not (every k 0 (λ e. bit n (at words e)))) (add-one m)
-        ∙ not-every (suc m) 0 (λ e. bit n (at words e)) presentIn (suppliedBy (roster m) shift (at values) (owed ps) n)
+        (ap (λ k. not (every k 0 (λ e. bit n (at words e)))) (add-one l)
+        ∙ not-every (suc l) 0 (λ e. bit n (at words e)) presentIn (suppliedBy (roster m) shift (at values) (owed ps) n)
         (λ e q. keeps-supplied e n (omega arith) (omega arith))))
 
   -- the numbers are small, and no revenue is 0
@@ -103,7 +103,7 @@ module _ (m : ℕ) (few : m ≤ 6) (values ps gs rs : List ℕ) (keeps : Keeps m
     pub gain-small : SmallGains m gs
     gain-small k h = omega (arith, keeps .gains k h, gain-most k)
 
-    pub revenue-small : SmallRevenues m rs
+    pub revenue-small : SmallRevenues l rs
     revenue-small e h =
         let R = roster m in
         let worth : ℕ → ℕ = λ k. when (inside R (presentIn e) k) (gain R shift (at values) (owed ps) k) in
@@ -124,15 +124,15 @@ module _ (m : ℕ) (few : m ≤ 6) (values ps gs rs : List ℕ) (keeps : Keeps m
         gain-some k = omega (arith, gain-exact (roster m) 59994 (at values) (owed ps) narrow k)
 
   -- after a round of the set x
-  module _ (x : ℕ) (chosen : lowestBy (roster m) shift (at values) (owed ps) ≡ suc x) where
-    pub keeps-next : (words : List ℕ) → Supplied m gs rs words → (ps′ gs′ rs′ : List ℕ) → AtMost 9999 ps′ →
-        NextPayoffs m ps x ps′ → NextGains m gs x gs′ → NextRevenues m rs words x rs′ →
-        Keeps m values ps′ gs′ rs′
+  module _ (x : ℕ) (chosen : lowestBy (rosterIn m l) shift (at values) (owed ps) ≡ suc x) where
+    pub keeps-next : (words : List ℕ) → Supplied m l gs rs words → (ps′ gs′ rs′ : List ℕ) → AtMost 9999 ps′ →
+        NextPayoffs m ps x ps′ → NextGains m gs x gs′ → NextRevenues m l rs words x rs′ →
+        Keeps m l values ps′ gs′ rs′
     keeps-next words supplied ps′ gs′ rs′ small fall rise raise =
-        let R = roster m in
+        let R = rosterIn m l in
         let v = at values in
         let keen : (i : ℕ) → Among m 1 i → member x i ≡ true → 1 ≤ owed ps i =
-        lowest-keen R (roster-ranks m few) shift v (owed ps) wide x chosen in
+        lowest-keen R (roster-ranks m l few) shift v (owed ps) wide x chosen in
         let same : (i : ℕ) → Among m 1 i → lower (member x) (owed ps) i ≡ owed ps′ i =
         λ i r. sym (fall i (omega arith) (omega arith)) in
         record {
@@ -142,8 +142,8 @@ module _ (m : ℕ) (few : m ≤ 6) (values ps gs rs : List ℕ) (keeps : Keeps m
               (owed ps′) same k;
           revenues = λ e h.
               let is = rw (keeps-supplied words supplied e x h (omega (arith, below))) at (raise e h) in
-              let next = kept-revenues R (roster-ranks m few) shift v (owed ps) wide x chosen (presentIn e)
-              (tabulate-in (suc m) 0 presentIn e (omega arith)) in
+              let next = kept-revenues R (roster-ranks m l few) shift v (owed ps) wide x chosen (presentIn e)
+              (tabulate-in (suc l) 0 presentIn e (omega arith)) in
               omega (
                 arith,
                 keeps .revenues e h,

@@ -94,14 +94,14 @@ fn revenue(gains: &[u32; 64], buyers: usize, sets: usize, economy: usize) -> u32
     best
 }
 
-// The revenue of each economy.
-pub fn revenues(gains: &[u32; 64], buyers: usize, sets: usize) -> [u32; 7]
-    requires { ⌜ (buyers ≤ 6) × Is (2 ^ buyers) sets 64 ⌝ }
-    ensures { λ r. ⌜ Revenues buyers (now (gains .entry)) r ⌝ }
+// The revenue of each economy, up to that of number `last`.
+pub fn revenues(gains: &[u32; 64], buyers: usize, last: usize, sets: usize) -> [u32; 7]
+    requires { ⌜ (buyers ≤ 6) × (last ≤ buyers) × Is (2 ^ buyers) sets 64 ⌝ }
+    ensures { λ r. ⌜ Revenues buyers last (now (gains .entry)) r ⌝ }
 {
     let mut next = [0u32; 7];
     let mut e: usize = 0;
-    while e <= buyers {
+    while e <= last {
         next[e] = revenue(gains, buyers, sets, e);
         e += 1;
     }
@@ -198,13 +198,13 @@ fn covered(subsets: &[u64; 64], buyers: usize, economy: usize, k: usize) -> u64
 }
 
 // The least revenue. That none is below it is all that its contract says: sets that gain less are passed over.
-fn least_of(revenues: &[u32; 7], buyers: usize) -> u32
-    requires { ⌜ buyers ≤ 6 ⌝ }
-    ensures { λ r. ⌜ Under buyers (now (revenues .entry)) r ⌝ }
+fn least_of(revenues: &[u32; 7], last: usize) -> u32
+    requires { ⌜ last ≤ 6 ⌝ }
+    ensures { λ r. ⌜ Under last (now (revenues .entry)) r ⌝ }
 {
     let mut least = revenues[0];
     let mut e: usize = 1;
-    while e <= buyers {
+    while e <= last {
         let r = revenues[e];
         if r < least {
             least = r;
@@ -220,15 +220,17 @@ fn reach(
     words: &mut [u64; 7],
     revenues: &[u32; 7],
     buyers: usize,
+    last: usize,
     k: usize,
     gain: u32,
 )
-    requires { ⌜ Subsets (now subsets) × (length (now words) ≡ 7) × (buyers ≤ 6) × (k < 2 ^ buyers) ⌝ }
+    requires { ⌜ Subsets (now subsets) × (length (now words) ≡ 7) × (buyers ≤ 6) × (last ≤ buyers)
+        × (k < 2 ^ buyers) ⌝ }
     ensures { λ _. ⌜ (length (now (words .exit)) ≡ 7)
-        × Joins buyers (now (revenues .entry)) gain k (now (words .entry)) (now (words .exit)) ⌝ }
+        × Joins buyers last (now (revenues .entry)) gain k (now (words .entry)) (now (words .exit)) ⌝ }
 {
     let mut e: usize = 0;
-    while e <= buyers {
+    while e <= last {
         if gain == revenues[e] {
             if is_inside(buyers, e, k) {
                 words[e] = words[e] | covered(subsets, buyers, e, k);
@@ -245,18 +247,19 @@ pub fn supplied(
     gains: &[u32; 64],
     revenues: &[u32; 7],
     buyers: usize,
+    last: usize,
     sets: usize,
 ) -> [u64; 7]
-    requires { ⌜ Subsets (now subsets) × (buyers ≤ 6) × Is (2 ^ buyers) sets 64 ⌝ }
-    ensures { λ r. ⌜ Supplied buyers (now (gains .entry)) (now (revenues .entry)) r ⌝ }
+    requires { ⌜ Subsets (now subsets) × (buyers ≤ 6) × (last ≤ buyers) × Is (2 ^ buyers) sets 64 ⌝ }
+    ensures { λ r. ⌜ Supplied buyers last (now (gains .entry)) (now (revenues .entry)) r ⌝ }
 {
-    let least = least_of(revenues, buyers);
+    let least = least_of(revenues, last);
     let mut words = [0u64; 7];
     let mut k: usize = 0;
     while k < sets {
         let g = gains[k];
         if least <= g {
-            reach(subsets, &mut words, revenues, buyers, k, g);
+            reach(subsets, &mut words, revenues, buyers, last, k, g);
         }
         k += 1;
     }
@@ -264,13 +267,13 @@ pub fn supplied(
 }
 
 // The sets that are supplied in every economy.
-fn everywhere(words: &[u64; 7], buyers: usize) -> u64
-    requires { ⌜ buyers ≤ 6 ⌝ }
-    ensures { λ r. ⌜ Word buyers (λ n. every (buyers + 1) 0 (λ e. bit n (at (now (words .entry)) e))) r ⌝ }
+fn everywhere(words: &[u64; 7], last: usize) -> u64
+    requires { ⌜ last ≤ 6 ⌝ }
+    ensures { λ r. ⌜ Word 6 (λ n. every (last + 1) 0 (λ e. bit n (at (now (words .entry)) e))) r ⌝ }
 {
     let mut word: u64 = 18446744073709551615;
     let mut e: usize = 0;
-    while e <= buyers {
+    while e <= last {
         word = word & words[e];
         e += 1;
     }
@@ -317,11 +320,12 @@ pub fn lowest(
     words: &[u64; 7],
     payoffs: &[u32; 6],
     buyers: usize,
+    last: usize,
     sets: usize,
 ) -> usize
-    requires { ⌜ Subsets (now subsets) × (buyers ≤ 6) × Is (2 ^ buyers) sets 64 ⌝ }
-    ensures { λ r. ⌜ Is (lowestIn buyers (now (words .entry)) (now (payoffs .entry))) r 64 ⌝ }
+    requires { ⌜ Subsets (now subsets) × (buyers ≤ 6) × (last ≤ buyers) × Is (2 ^ buyers) sets 64 ⌝ }
+    ensures { λ r. ⌜ Is (lowestIn buyers last (now (words .entry)) (now (payoffs .entry))) r 64 ⌝ }
 {
     let keen = keen_set(payoffs, buyers);
-    first_missing(subsets[keen], everywhere(words, buyers), sets)
+    first_missing(subsets[keen], everywhere(words, last), sets)
 }

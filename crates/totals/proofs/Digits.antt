@@ -1,8 +1,8 @@
--- One law for each way through a loop: over the bidders (`bidders-sum`), over the buyers that own something, from the
+-- One law for each way through a loop: over the bidders (`bidders-sum`; `each-total` where all have one bundle), over the buyers that own something, from the
 -- last down (`set-with`, `set-without`, `set-all`), over words into the values of sets (`values-rise`, `values-stay`),
 -- over economies (`raise-here`, `raise-not`), and over words into the greatest totals of all economies (`Reached`).
 use mathlib.Core.Path.{_≡_, refl, sym, ap, _∙_}
-use mathlib.Core.Bool.{not}
+use mathlib.Core.Bool.{Bool, not}
 use mathlib.Core.List.{List}
 use Prim.Native.Nat.{ℕ, suc, max, _+_, _-_, _*_, _≤_, _<_}
 use native.Mathlib.Decide.{ℕ-discrete, decLe}
@@ -14,16 +14,18 @@ use borrow.Author.Tests.{eq-eqb, ne-eqb, eqb-true, eqb-false}
 use Rattle.theory.specs.Sums.{when, sum}
 use Rattle.theory.specs.Lists.{most}
 use Rattle.theory.specs.Coalitions.{holder}
-use Rattle.theory.proofs.Tests.{by-test}
+use Rattle.theory.specs.Tests.{every}
+use Rattle.theory.proofs.Sums.{sum-same}
+use Rattle.theory.proofs.Tests.{by-test, itself, every-means}
 use Rattle.theory.proofs.Loops.{Revised, revised-set, revised-skip}
 use Rattle.numbers.specs.Numbers.{Is}
 use Rattle.owners.specs.Owners.{number}
-use Rattle.owners.specs.Prices.{bidders}
+use Rattle.owners.specs.Prices.{bidders, entry}
 use Rattle.owners.specs.Singles.{AtMost}
 use Rattle.owners.proofs.Bits.{number-down}
 use Rattle.lists.specs.Words.{digit, wordMarket}
 use Rattle.lists.proofs.Loops.{most-next, most-over}
-use Rattle.totals.specs.Totals.{wordTotal, wordIn, wordTotalIn, wordHolders, wordTotalBy}
+use Rattle.totals.specs.Totals.{wordTotal, wordIn, wordTotalIn, wordHolders, wordTotalBy, limitBy}
 
 -- the bidders from `low` on
 pub bidders-count : (low m : ℕ) → low ≤ 1 → m + 1 - low ≡ bidders low m
@@ -32,6 +34,20 @@ bidders-count low m h =
 
 pub bidders-sum : (low m : ℕ) (f : ℕ → ℕ) → low ≤ 1 → sum (m + 1 - low) low f ≡ sum (bidders low m) low f
 bidders-sum low m f h = ap (λ n. sum n low f) (bidders-count low m h)
+
+-- the word in which each bidder has the same bundle; bundles are tried out
+each-digit : (s i : ℕ) → s < 16 → i < 7 → digit i (s * 17895697) ≡ s
+each-digit s i h l =
+    let same : ℕ → ℕ → Bool = λ s i. eqb (digit i (s * 17895697)) s in
+    eqb-true (digit i (s * 17895697)) s
+    (every-means 7 0 (λ i r. itself (same s i)) .0
+    (every-means 16 0 (λ s r. itself (every 7 0 (same s))) .0 refl s (omega arith)) i (omega arith))
+
+pub each-total : (low m all : ℕ) (t : List ℕ) → low ≤ 1 → m ≤ 6 → all ≤ 16 →
+    wordTotal low m t ((all - 1) * 17895697) ≡ limitBy low m all t
+each-total low m all t first few short =
+    sum-same (bidders low m) low _ _
+    (λ i r. ap (entry t i) (each-digit (all - 1) i (omega arith) (omega (arith, bidders-count low m first))))
 
 -- n is the number of the set of those after i, and d what i owns
 module _ (m w i n d : ℕ) (lo : 1 ≤ i) (hi : i ≤ m) (e : n ≡ number (m - i) (suc i) (holder (wordMarket 1 m) w))

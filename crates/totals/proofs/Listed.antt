@@ -4,7 +4,7 @@
 use mathlib.Core.Path.{_≡_, refl, ap, ap₂, _∙_}
 use mathlib.Core.Bool.{Bool, not, _||_}
 use mathlib.Core.List.{List, [], _∷_}
-use Prim.Native.Nat.{ℕ, zero, suc, _≤_}
+use Prim.Native.Nat.{ℕ, zero, suc, _-_, _≤_}
 use native.Mathlib.Omega.{arith}
 use lib.Dec.{eqb, eqb·suc-zero}
 use borrow.Author.Tests.{eqb-true, eqb-false}
@@ -17,13 +17,14 @@ use Rattle.theory.proofs.Tests.{by-test}
 use Rattle.owners.specs.Owners.{bundleFrom, lacks, number}
 use Rattle.owners.specs.Prices.{entry}
 use Rattle.offers.specs.Offers.{Offer, market, Bids, priceAt, economy, revenue}
+use Rattle.offers.specs.Rounds.{roundLimit}
 use Rattle.offers.specs.Places.{four}
 use Rattle.demand.proofs.Demands.{entry-is}
 use Rattle.lists.specs.Words.{digit, ownersOf, wordOf, wordsOf, Packed}
 use Rattle.lists.proofs.Words.{none-packs, word-bundle}
 use Rattle.lists.proofs.Loops.{most-words, first-words, first-owners, first-such}
 use Rattle.lists.proofs.Packed.{held, in-word}
-use Rattle.totals.specs.Totals.{wordTotal, wordTotalIn, wordHolders, wordTotalBy}
+use Rattle.totals.specs.Totals.{wordTotal, wordTotalIn, wordHolders, wordTotalBy, limitBy}
 
 -- the greatest of those that pass
 most-when : {A : Type 0} (f : A → ℕ) (t : A → Bool) (l : List A) → most (λ a. when (t a) (f a)) l ≡ most f (keep t l)
@@ -55,6 +56,11 @@ module _ (O : Offer) (packed : Packed O) where
       by-test (eqb (O .low) 0)
       (λ e. let h = rw e at (r .1) in omega (arith, packed .few, eqb-true (O .low) 0 e, h))
       (λ e. let h = rw e at (r .1) in omega (arith, packed .few, packed .first, h))
+
+  -- question 9's sum
+  pub limit-found : limitBy (O .low) (O .buyers) (O .bundles) (O .worths) ≡ roundLimit O
+  limit-found =
+      sum-same (market O .many) (O .low) _ _ (λ i r. entry-is O i r (O .worths) (O .bundles - 1))
 
   -- one word
   module _ (a : List ℕ) (m : a ∈ O .lists) where

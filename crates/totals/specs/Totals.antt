@@ -1,19 +1,24 @@
 -- Totals and holders by a word, for m buyers, and the house where `low` is 0, and a table of sixteen numbers to a
--- bidder. Offers the total, that in an economy, and that where the holders are a given set.
+-- bidder. Offers the total, that in an economy, that where the holders are a given set, and
+-- the sum that limits the rounds.
 use mathlib.Core.Bool.{Bool, _||_}
 use mathlib.Core.List.{List}
 use Prim.Native.Nat.{ℕ, _+_, _-_}
 use lib.Dec.{eqb}
 use lib.ListN.{getD}
-use Rattle.theory.specs.Sums.{when}
+use Rattle.theory.specs.Sums.{when, sum}
 use Rattle.theory.specs.Markets.{total}
 use Rattle.theory.specs.Coalitions.{holder}
 use Rattle.owners.specs.Owners.{number}
-use Rattle.owners.specs.Prices.{entry}
+use Rattle.owners.specs.Prices.{bidders, entry}
 use Rattle.lists.specs.Words.{digit, wordMarket}
 
 abbrev pub wordTotal : ℕ → ℕ → List ℕ → ℕ → ℕ
 wordTotal low m t w = total (wordMarket low m) (entry t) w
+
+-- what the last bundle, that of all, has in the table for the bidders
+abbrev pub limitBy : ℕ → ℕ → ℕ → List ℕ → ℕ
+limitBy low m all t = sum (bidders low m) low (λ i. entry t i (all - 1))
 
 -- the word is one of the economy without buyer e, or of all for 0
 abbrev pub wordIn : ℕ → ℕ → Bool

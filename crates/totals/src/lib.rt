@@ -11,10 +11,13 @@ ghost use Rattle.owners.specs.Prices.{rows};
 ghost use Rattle.owners.specs.Singles.{AtMost};
 ghost use Rattle.offers.specs.Places.{atPlace, perBuyer};
 ghost use Rattle.totals.specs.Totals.{wordTotal, wordIn, wordTotalIn, wordHolders, wordTotalBy};
-ghost use Rattle.totals.specs.Totals.{wordPayment};
+ghost use Rattle.totals.specs.Totals.{limitBy, wordPayment};
 use lists::digit_of;
 use numbers::less;
 use tables::entry;
+
+// The word that has 1 as the bundle of each bidder, 0 to 6.
+const EACH: u64 = 17895697;
 
 // The sum of what stands in a table for what the bidders own.
 pub fn total_of(table: &[u16], low: usize, buyers: usize, word: u64) -> u32
@@ -29,6 +32,15 @@ pub fn total_of(table: &[u16], low: usize, buyers: usize, word: u64) -> u32
         i += 1;
     }
     total
+}
+
+// Question 9's sum (rule 3.9), what all lots are worth to each bidder: the total of a word in which each has them all.
+pub fn limit_of(worths: &[u16], low: usize, buyers: usize, bundles: usize) -> u32
+    requires { ⌜ (low ≤ 1) × (buyers ≤ 6) × (1 ≤ bundles) × (bundles ≤ 16) × (16 * rows low ≤ length (now worths)) ⌝ }
+    ensures { λ r. ⌜ Is (limitBy low buyers bundles (now (worths .entry))) r 458745 ⌝ }
+{
+    let top = bundles as u64 - 1;
+    total_of(worths, low, buyers, top * EACH)
 }
 
 // Whether a word is one of the economy without `absent`, or of all for 0.

@@ -90,4 +90,4 @@ module _ (N m n top : ℕ) (o o′ : List ℕ) (r : Wrote) (says : TrialSays N m
   pub trial-record : roundLimit (offerOf b) ≤ 59994
   trial-record =
       let shape = accepted-shape b accepted in
-      limit-small (sheetOf b .buyers) (sheetOf b .lots) (shape .few-buyers) (sheetOf b .worths) (shape .small)
+      limit-small (sheetOf b .buyers) (2 ^ sheetOf b .lots - 1) (shape .few-buyers) (sheetOf b .worths) (shape .small)

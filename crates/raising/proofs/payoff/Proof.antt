@@ -9,7 +9,7 @@ use Rattle.raising.proofs.payoff.Tie as tie
 returns : tie.Need-returns
 returns c =
     let a = c .before .before in
-    let z = a .before .before .before in
+    let z = a .before .before .before .before .before in
     let w = a .before .wide in
     let p = c .before .wide2 in
     let e = payoff-some (z .args .top) (z .args .worths .now) (z .args .prices .now) (z .args .i) _ _ (z .pre .2)
@@ -17,13 +17,13 @@ returns c =
     record {
       is = omega (arith, e);
       most = omega
-          (arith, w .ensures .is, z .pre .4 (16 * (z .args .i - 1) + z .args .top));
+          (arith, w .ensures .is, z .pre .6 (16 * (z .args .i - 1) + z .args .top));
     }
 
 returns-2 : tie.Need-returns-2
 returns-2 c =
     let a = c .before .before in
-    let z = a .before .before .before in
+    let z = a .before .before .before .before .before in
     let w = a .before .wide in
     let p = c .before .wide2 in
     let e = payoff-some (z .args .top) (z .args .worths .now) (z .args .prices .now) (z .args .i) _ _ (z .pre .2)

@@ -18,7 +18,8 @@ loop-holds : tie.Need-loop-holds Inv-loop μ-loop
 loop-holds c = (omega arith, record { filled = filled-none _ 6 _ refl; small = λ k. omega (arith, zeros-at 6 k) })
 
 payoff-requires : tie.Need-payoff-requires Inv-loop μ-loop
-payoff-requires c κs = (omega arith, omega arith, omega arith, omega arith, c .before .before .pre .3)
+payoff-requires c κs = let p = c .before .before .before .before .pre in
+    (omega arith, omega arith, omega arith, omega arith, p .3, p .4, p .5)
 
 array-write-left : tie.Need-array-write-left Inv-loop μ-loop
 array-write-left c = omega (arith, c .before .before .loop .inv .1 .filled .long)
@@ -32,7 +33,7 @@ loop-again c = (
 
 returns : tie.Need-returns Inv-loop μ-loop
 returns c =
-    (c .before .loop .inv .1 .small, read-end (c .before .before .args .buyers) (c .before .loop .inv .1) (omega arith))
+    (c .before .loop .inv .1 .small, read-end (c .before .before .before .before .args .buyers) (c .before .loop .inv .1) (omega arith))
 
 pub payoffs-spec : {M : Type 1} → statement M
 payoffs-spec =

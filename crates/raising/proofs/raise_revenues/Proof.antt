@@ -13,14 +13,14 @@ use Rattle.raising.proofs.raise_revenues.Statement.{statement}
 use Rattle.raising.proofs.raise_revenues.Tie as tie
 
 abbrev Inv-loop : tie.InvT-loop
-Inv-loop revenues₀ words buyers set e₀ revenues e =
-    (e ≤ buyers + 1) × Revised (Raised buyers revenues₀ words set) 7 revenues₀ e revenues
+Inv-loop revenues₀ words buyers last set e₀ revenues e =
+    (e ≤ last + 1) × Revised (Raised buyers revenues₀ words set) 7 revenues₀ e revenues
 
 abbrev μ-loop : tie.MeasureT-loop
-μ-loop revenues₀ words buyers set e₀ revenues e = buyers + 1 - e
+μ-loop revenues₀ words buyers last set e₀ revenues e = last + 1 - e
 
 loop-holds : tie.Need-loop-holds Inv-loop μ-loop
-loop-holds c = (omega arith, revised-none _ 7 _ (c .pre .2))
+loop-holds c = (omega arith, revised-none _ 7 _ (c .pre .3))
 
 common-requires : tie.Need-common-requires Inv-loop μ-loop
 common-requires c κs =
@@ -35,7 +35,7 @@ add-up c =
       arith,
       c .common .ensures .few,
       l .loop .inv .1 .rest (l .loop .e) (omega arith),
-      z .pre .3 (l .loop .e) (omega arith),
+      z .pre .4 (l .loop .e) (omega arith),
     )
 
 has-requires : tie.Need-has-requires Inv-loop μ-loop
@@ -46,7 +46,7 @@ has-requires c κs =
 sub-revenues : tie.Need-sub-revenues Inv-loop μ-loop
 sub-revenues c =
     let l = c .before .before .before .before .before .before .before in
-    omega (arith, l .loop .inv .1 .rest (l .loop .e) (omega arith), l .before .pre .3 (l .loop .e) (omega arith))
+    omega (arith, l .loop .inv .1 .rest (l .loop .e) (omega arith), l .before .pre .4 (l .loop .e) (omega arith))
 
 loop-again : tie.Need-loop-again Inv-loop μ-loop
 loop-again c =
@@ -62,7 +62,7 @@ loop-again c =
       arith,
       l .loop .inv .1 .rest e (omega arith),
       common-present (a .set) (but .result) (n .result) (a .buyers) e (z .pre .0) (but .ensures)
-          (n .ensures .is (a .buyers) (z .pre .1)),
+          (n .ensures .is (a .buyers) (z .pre .2)),
     ) in (
       omega arith,
       revised-set _ 7 (a .revenues .now) e (l .loop .revenues) (l .loop .inv .1) (omega arith) (c .if1 .revenues)
@@ -70,7 +70,7 @@ loop-again c =
           (λ w. raised-in (a .buyers) (a .revenues .now) (a .words .now) (a .set) e _ _ up _ (c .before .has .ensures)
           (w .0 .taken) (w .1))
           (λ w. raised-out (a .buyers) (a .revenues .now) (a .words .now) (a .set) e _ _ up _ (c .before .has .ensures)
-          (w .0 .left) (omega (arith, l .loop .inv .1 .rest e (omega arith), z .pre .3 e (omega arith))) (w .1))
+          (w .0 .left) (omega (arith, l .loop .inv .1 .rest e (omega arith), z .pre .4 e (omega arith))) (w .1))
           (c .if1 .came)),
     )
 

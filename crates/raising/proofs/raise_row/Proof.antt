@@ -13,34 +13,34 @@ use Rattle.raising.proofs.raise_row.Statement.{statement}
 use Rattle.raising.proofs.raise_row.Tie as tie
 
 abbrev Inv-loop : tie.InvT-loop
-Inv-loop worths prices₀ i all left s₀ prices s =
-    (1 ≤ s) × (s ≤ all) × (prices ≡ raisedRow s worths i left prices₀)
+Inv-loop worths prices₀ i bundles left s₀ prices s =
+    (1 ≤ s) × (s ≤ bundles) × (prices ≡ raisedRow s worths i left prices₀)
 
 abbrev μ-loop : tie.MeasureT-loop
-μ-loop worths prices₀ i all left s₀ prices s = all - s
+μ-loop worths prices₀ i bundles left s₀ prices s = bundles - s
 
 -- the prices in the loop, and the one at bundle s, which is as it was
 module _ (l : tie.At-loop Inv-loop μ-loop) where
   long : length (l .loop .prices) ≡ 96
   long =
-      let z = l .before .before in
+      let z = l .before .before .before in
       ap length (l .loop .inv .2)
       ∙ raised-long 6 (l .loop .s) (worth (z .args .worths .now)) (eqb (z .args .i)) (λ _. z .args .left)
       (z .args .prices .now)
 
-  same : l .loop .s < 16 → getD (l .loop .prices) (16 * (l .before .before .args .i - 1) + l .loop .s) 0
-      ≡ getD (l .before .before .args .prices .now) (16 * (l .before .before .args .i - 1) + l .loop .s) 0
+  same : l .loop .s < 16 → getD (l .loop .prices) (16 * (l .before .before .before .args .i - 1) + l .loop .s) 0
+      ≡ getD (l .before .before .before .args .prices .now) (16 * (l .before .before .before .args .i - 1) + l .loop .s) 0
   same h =
-      let z = l .before .before in
+      let z = l .before .before .before in
       row-at (z .args .worths .now) (z .args .i) (z .args .left) (z .pre .0) (z .pre .1) (z .args .prices .now)
       (l .loop .s) (l .loop .inv .0) h (l .loop .prices) (l .loop .inv .2)
 
 loop-holds : tie.Need-loop-holds Inv-loop μ-loop
 loop-holds c =
-    let z = c .before in (
+    let z = c .before .before in (
       omega arith,
       omega arith,
-      row-none (z .args .worths .now) (z .args .i) (z .args .left) (z .pre .0) (z .pre .1) _ (z .pre .4),
+      row-none (z .args .worths .now) (z .args .i) (z .args .left) (z .pre .0) (z .pre .1) _ (z .pre .5),
     )
 
 slice-read-p : tie.Need-slice-read-p Inv-loop μ-loop
@@ -52,8 +52,8 @@ wide-requires c κs = tt
 add-prices : tie.Need-add-prices Inv-loop μ-loop
 add-prices c =
     let l = c .before .before .before .before .before in
-    let z = l .before .before in
-    omega (arith, same l (omega arith), z .pre .5 (16 * (z .args .i - 1) + l .loop .s))
+    let z = l .before .before .before in
+    omega (arith, same l (omega arith), z .pre .6 (16 * (z .args .i - 1) + l .loop .s))
 
 slice-write-prices : tie.Need-slice-write-prices Inv-loop μ-loop
 slice-write-prices c = omega (arith, long (c .before .before .before .before .before))
@@ -61,7 +61,7 @@ slice-write-prices c = omega (arith, long (c .before .before .before .before .be
 loop-again : tie.Need-loop-again Inv-loop μ-loop
 loop-again c =
     let l = c .before .before .before .before .before in
-    let z = l .before .before in
+    let z = l .before .before .before in
     let a = z .args in
     let v = c .before .wide in (
       omega arith,
@@ -75,13 +75,13 @@ loop-again c =
     )
 
 same-length : tie.Need-same-length Inv-loop μ-loop
-same-length c = long (c .before) ∙ sym (c .before .before .before .pre .4)
+same-length c = long (c .before) ∙ sym (c .before .before .before .before .pre .5)
 
 returns : tie.Need-returns Inv-loop μ-loop
 returns c =
     let l = c .before in
-    let a = l .before .before .args in
-    let end : l .loop .s ≡ a .all = omega arith in
+    let a = l .before .before .before .args in
+    let end : l .loop .s ≡ a .bundles = omega arith in
     l .loop .inv .2 ∙ ap (λ s. raisedRow s (a .worths .now) (a .i) (a .left) (a .prices .now)) end
 
 pub raise-row-spec : {M : Type 1} → statement M

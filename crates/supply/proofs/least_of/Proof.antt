@@ -9,10 +9,10 @@ use Rattle.supply.proofs.least_of.Statement.{statement}
 use Rattle.supply.proofs.least_of.Tie as tie
 
 abbrev Inv-loop : tie.InvT-loop
-Inv-loop revenues buyers least₀ e₀ least e = (e ≤ buyers + 1) × ((j : ℕ) → j < e → least ≤ at revenues j)
+Inv-loop revenues last least₀ e₀ least e = (e ≤ last + 1) × ((j : ℕ) → j < e → least ≤ at revenues j)
 
 abbrev μ-loop : tie.MeasureT-loop
-μ-loop revenues buyers least₀ e₀ least e = buyers + 1 - e
+μ-loop revenues last least₀ e₀ least e = last + 1 - e
 
 loop-holds : tie.Need-loop-holds Inv-loop μ-loop
 loop-holds c =

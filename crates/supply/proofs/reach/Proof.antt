@@ -9,11 +9,11 @@ use Rattle.supply.proofs.reach.Statement.{statement}
 use Rattle.supply.proofs.reach.Tie as tie
 
 abbrev Inv-loop : tie.InvT-loop
-Inv-loop subsets words₀ revenues buyers k gain e₀ words e =
-    (e ≤ buyers + 1) × Revised (Reached buyers revenues gain k words₀) 7 words₀ e words
+Inv-loop subsets words₀ revenues buyers last k gain e₀ words e =
+    (e ≤ last + 1) × Revised (Reached buyers revenues gain k words₀) 7 words₀ e words
 
 abbrev μ-loop : tie.MeasureT-loop
-μ-loop subsets words₀ revenues buyers k gain e₀ words e = buyers + 1 - e
+μ-loop subsets words₀ revenues buyers last k gain e₀ words e = last + 1 - e
 
 loop-holds : tie.Need-loop-holds Inv-loop μ-loop
 loop-holds c = (omega arith, revised-none _ 7 (c .args .words .now) (c .pre .1))
@@ -22,7 +22,7 @@ covered-requires : tie.Need-covered-requires Inv-loop μ-loop
 covered-requires c κs =
     let i = c .before .before in
     let z = i .before .before .before .before .before in
-    (z .pre .0, omega arith, omega arith, z .pre .3, sym (i .is-inside .ensures) ∙ c .before .if2 .taken)
+    (z .pre .0, omega arith, omega arith, z .pre .4, sym (i .is-inside .ensures) ∙ c .before .if2 .taken)
 
 loop-again : tie.Need-loop-again Inv-loop μ-loop
 loop-again c =

@@ -8,16 +8,16 @@ use Rattle.supply.proofs.revenues.Statement.{statement}
 use Rattle.supply.proofs.revenues.Tie as tie
 
 abbrev Inv-loop : tie.InvT-loop
-Inv-loop gains buyers sets next₀ e₀ next e = (e ≤ buyers + 1) × Filled (greatest buyers gains) 7 e next
+Inv-loop gains buyers last sets next₀ e₀ next e = (e ≤ last + 1) × Filled (greatest buyers gains) 7 e next
 
 abbrev μ-loop : tie.MeasureT-loop
-μ-loop gains buyers sets next₀ e₀ next e = buyers + 1 - e
+μ-loop gains buyers last sets next₀ e₀ next e = last + 1 - e
 
 loop-holds : tie.Need-loop-holds Inv-loop μ-loop
 loop-holds c = (omega arith, filled-none _ 7 _ refl)
 
 revenue-requires : tie.Need-revenue-requires Inv-loop μ-loop
-revenue-requires c κs = let z = c .before .before in (z .pre .0, z .pre .1, omega arith)
+revenue-requires c κs = let z = c .before .before in (z .pre .0, z .pre .2, omega (arith, z .pre .1))
 
 array-write-next : tie.Need-array-write-next Inv-loop μ-loop
 array-write-next c = omega (arith, c .before .before .loop .inv .1 .long)
