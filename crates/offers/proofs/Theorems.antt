@@ -18,6 +18,7 @@ use Rattle.theory.specs.Auction.{Economy, Minimal, supplied, fits as fits-of, A
 use Rattle.theory.specs.Universal.{Competitive, Universal, Answers, Bundled}
 use Rattle.theory.proofs.Sums.{sum-same}
 use Rattle.theory.proofs.Tests.{by-test, fails, itself, and-means, leb-means, least-none}
+use Rattle.theory.proofs.Rounds.{after-one}
 use Rattle.theory.proofs.Payments.{discount-exact}
 use Rattle.theory.proofs.Auction.{supplied-means, undersupplied-means, undersupplied-keen, settled-iff}
 use Rattle.theory.proofs.Auction.{lowest-least as least-of, lowest-minimal as minimal-of}
@@ -34,13 +35,6 @@ use Rattle.offers.specs.Rounds.{raised, roundLimit, startPrices, setsFro
 use Rattle.offers.specs.Rounds.{lastPrices, ownersBy, discountFor}
 use Rattle.offers.specs.Claims.{Prices, Supports, UCE, setAt, Ascending, Regular}
 use Rattle.offers.proofs.Economies.{Numbers, economy-number, number-economy, economy-fewer}
-
--- the state after one choice more
-after-one : {A : Type 0} (step : ℕ → A → A) (σ : A) (l : List ℕ) (k : ℕ) → k < length l → after step σ (take (suc k) l)
-    ≡ step (getD l k 0) (after step σ (take k l))
-after-one step σ [] k h = absurd (omega arith)
-after-one step σ (x ∷ l) zero h = refl
-after-one step σ (x ∷ l) (suc k) h = after-one step (step x σ) l k (omega arith)
 
 -- prices are as many in every round
 after-long : (O : Offer) (l ps : List ℕ) → length ps ≡ 16 * seats O .rows →

@@ -2,7 +2,7 @@
 -- wrong place has the least offset), and for each question what its "no" and its "yes" mean.
 use mathlib.Core.Path.{_≡_, refl, sym, ap, _∙_}
 use mathlib.Core.Logic.{_⊎_, inl, inr}
-use mathlib.Core.Bool.{Bool, true, false, not}
+use mathlib.Core.Bool.{true, false, not}
 use mathlib.Core.List.{List, [], _∷_}
 use Prim.Native.Nat.{ℕ, zero, suc, _+_, _-_, _*_, _/_, _%_, _^_, _≤_, _<_}
 use native.Mathlib.Nat.{add-zero, suc-mul, mul-le-mul-right, div-add-mod', mul-add-div-right, mul-add-mod-self-right}
@@ -12,9 +12,9 @@ use native.Mathlib.Decide.{ℕ-discrete, decLe}
 use lib.Dec.{ltb}
 use lib.ListN.{length, take, drop, getD}
 use borrow.Author.Tests.{ltb-true, ltb-false, lt-ltb, leb-false, not-true}
-use Rattle.theory.specs.Tests.{_⊃_, least}
+use Rattle.theory.specs.Tests.{least}
 use Rattle.theory.proofs.Tests.{by-test, fails, Means, means-via, itself, and-means, imp-means, not-means, eqb-means}
-use Rattle.theory.proofs.Tests.{leb-means, every-means, every-fails, least-none, least-found}
+use Rattle.theory.proofs.Tests.{leb-means, imp-fails, every-means, every-fails, least-none, least-found}
 use Rattle.fields.specs.declared.Field.{Field}
 use Rattle.fields.specs.declared.Field.the-variants.{Number, Faulty}
 use Rattle.fields.specs.Fields.{Class, classOf, onClass, digitsFrom, zeroFrom, fieldFrom, fieldAt, good}
@@ -179,7 +179,3 @@ module _ (b : List ℕ) (w : Sheet) (i c : ℕ) where
       not-means (every-means (w .lots) 0
       (λ j r. imp-means (itself (bit j (suc c))) (leb-means (worth w i (suc c - 2 ^ j)) (worth w i (suc c))))) .1
       (λ all. let le = all j (omega arith) has in absurd (omega arith))))
-    where
-      imp-fails : (x y : Bool) → (x ⊃ y) ≡ false → (x ≡ true) × (y ≡ false)
-      imp-fails true y e = (refl, e)
-      imp-fails false y e = fails refl e

@@ -1,11 +1,13 @@
 -- Lists written over others: what stands where (`over-early`, `over-late`, `over-long`), one number more (`over-more`),
--- and a part lent from n on that comes back with more written at its front (`over-then`).
-use mathlib.Core.Path.{_≡_, refl, ap, _∙_}
+-- and a part lent from n on that comes back with more written at its front (`over-then`). What was written is read back
+-- (`over-taken`), and lies within the list (`over-covers`, `front-within`).
+use mathlib.Core.Path.{_≡_, refl, sym, ap, _∙_}
 use mathlib.Core.List.{List, [], _∷_, _++_, append-assoc, append-nil}
 use Prim.Native.Nat.{ℕ, _+_, _-_, _≤_, _<_}
 use native.Mathlib.Numerals.{add-one}
 use native.Mathlib.Omega.{arith}
-use lib.ListN.{length, take, drop, set, getD, length-append, length-drop, drop-of-length-le, List·getD-append}
+use lib.ListN.{length, take, drop, set, getD, replicate, length-append, length-drop, length-replicate}
+use lib.ListN.{drop-of-length-le, List·getD-append}
 use lib.Seq.{drop-cons, set-append-seam, take-all, take-at, drop-at, drop-drop, getD-drop, getD-append-add}
 use borrow.Rule.Slice.PartMut.{putMid}
 use Rattle.theory.specs.Lists.{over}
@@ -39,3 +41,17 @@ over-then xs ys o l last n en h e g =
     rw d (drop-of-length-le (drop n o) {i = length l - n} (rw length-drop (omega arith))) in
     let k : take n l ≡ xs = rw e (take-at xs (drop (length xs) o) n en) in
     rw (k, p, append-nil, g, t, append-assoc, length-append, en, drop-drop) refl
+
+-- the r numbers at the front of a table after they were written over `old`
+module _ (xs old table : List ℕ) (r : ℕ) (er : r ≡ length xs) (et : table ≡ over xs old) where
+  pub over-covers : r ≤ length table
+  over-covers = omega (arith, ap length et, length-append xs (drop (length xs) old))
+
+  pub over-taken : take r table ≡ xs
+  over-taken = rw et (take-at xs (drop (length xs) old) r (sym er))
+
+-- a text at the front of zeros lies within them
+pub front-within : (text : List ℕ) (k : ℕ) → length text ≤ k → length text ≤ length (over text (replicate k 0))
+front-within text k h =
+    let zeros = length-replicate {A = ℕ} k 0 in
+    omega (arith, over-long text (replicate k 0) (omega (arith, zeros)), zeros)

@@ -15,14 +15,13 @@ use Rattle.theory.specs.Sums.{when, sum}
 use Rattle.theory.specs.Lists.{most}
 use Rattle.theory.specs.Coalitions.{holder}
 use Rattle.theory.proofs.Tests.{by-test}
-use Rattle.theory.proofs.Loops.{Revised, revised-set, revised-skip}
+use Rattle.theory.proofs.Loops.{Revised, revised-set, revised-skip, most-next, most-over}
 use Rattle.numbers.specs.Numbers.{Is}
 use Rattle.owners.specs.Owners.{number}
 use Rattle.owners.specs.Prices.{bidders}
 use Rattle.owners.specs.Singles.{AtMost}
 use Rattle.owners.proofs.Bits.{number-down}
 use Rattle.lists.specs.Words.{digit, wordMarket}
-use Rattle.lists.proofs.Loops.{most-next, most-over}
 use Rattle.totals.specs.Totals.{wordTotal, wordIn, wordTotalIn, wordHolders, wordTotalBy}
 
 -- the bidders from `low` on

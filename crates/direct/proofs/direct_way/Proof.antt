@@ -6,7 +6,7 @@ use native.Mathlib.Omega.{arith}
 use lib.ListN.{length, take, replicate}
 use borrow.Author.Needs.{needs}
 use Rattle.lists.specs.Words.{lotWords}
-use Rattle.lists.proofs.Walks.{over-covers, over-taken}
+use Rattle.theory.proofs.Over.{over-covers, over-taken}
 use Rattle.direct.proofs.Answering.{direct-refused, direct-asks, direct-reckoned}
 use Rattle.direct.proofs.direct_way.Statement.{statement}
 use Rattle.direct.proofs.direct_way.Tie as tie

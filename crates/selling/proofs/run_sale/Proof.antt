@@ -6,7 +6,7 @@ use native.Mathlib.Omega.{arith}
 use lib.ListN.{length, take, replicate}
 use borrow.Author.Needs.{needs}
 use Rattle.lists.specs.Words.{lotWords}
-use Rattle.lists.proofs.Walks.{over-covers, over-taken}
+use Rattle.theory.proofs.Over.{over-covers, over-taken}
 use Rattle.selling.proofs.Selling.{sale-refused, limit-asks, record-short, rounds-ask, sale-settled}
 use Rattle.selling.proofs.run_sale.Statement.{statement}
 use Rattle.selling.proofs.run_sale.Tie as tie
