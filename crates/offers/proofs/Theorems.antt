@@ -24,10 +24,10 @@ use Rattle.theory.proofs.Auction.{supplied-means, undersupplied-means, undersup
 use Rattle.theory.proofs.Auction.{lowest-least as least-of, lowest-minimal as minimal-of}
 use Rattle.theory.proofs.Universal.{closing-competitive}
 use Rattle.owners.specs.Prices.{Seats, zeros, read}
-use Rattle.owners.specs.Sales as sales
+use Rattle.owners.specs.Sales.{limit}
 use Rattle.owners.proofs.Prices.{small-fair, raised-long, quote-answers, best-is}
 use Rattle.owners.proofs.Economies.{whole-in}
-use Rattle.owners.proofs.Sales.{priced, begins, settled-is, table-kept, ends-fair, sale-second}
+use Rattle.owners.proofs.Sales.{Second, priced, begins, settled-is, table-kept, ends-fair, sale-second}
 use Rattle.numbers.proofs.Numbers.{pow-some}
 use Rattle.offers.specs.Offers.{Offer, market, Bids, seats, member, bits, worthOf, priceAt, theAuction, economy}
 use Rattle.offers.specs.Offers.{best, quote, revenue, fits, undersupplied, lowest}
@@ -134,10 +134,10 @@ module _ (O : Offer) (regular : Regular O) where
   exact-discount ps (suc i) r = discount-exact (market O) (priceAt O ps) (economy-fewer O (suc i))
 
   -- demand 2
-  room : sales.limit X S all (worthOf O) ≤ roundLimit O
+  room : limit X S all (worthOf O) ≤ roundLimit O
   room = omega arith
 
-  second : sales.Second X S all (worthOf O) (zeros S) (start X (worthOf O)) (roundLimit O)
+  second : Second X S all (worthOf O) (zeros S) (start X (worthOf O)) (roundLimit O)
   second = sale-second X S all (bits O) (O .lists) (regular .hall) (worthOf O) (regular .worths) (roundLimit O) room
 
   settles : lowest O (lastPrices O) ≡ 0

@@ -1,6 +1,6 @@
 -- Prices as one list, sixteen to a row, and the quote that bidders with worths v make of them, at any prices. Each
--- bidder has a seat: its row, and its bit in the number of a set. Offers `price`, `payoff`, `quote`, a round's raise
--- (`raised`), and when a list `Holds` the prices of a sale's payoffs.
+-- bidder has a seat: its row, and its bit in the number of a set. Offers `price`, `payoff`, `quote` and a round's raise
+-- (`raised`).
 use mathlib.Core.Path.{_≡_}
 use mathlib.Core.Bool.{Bool, true, _&&_, _||_}
 use mathlib.Core.List.{List}
@@ -9,7 +9,7 @@ use lib.Dec.{eqb, ltb, leb}
 use lib.ListN.{getD, replicate}
 use Rattle.theory.specs.Sums.{pick, when, sum, Among}
 use Rattle.theory.specs.Lists.{most, tabulate, upTo}
-use Rattle.theory.specs.Markets.{Market, Table, Bidder, asks}
+use Rattle.theory.specs.Markets.{Table}
 use Rattle.theory.specs.Auction.{Quote}
 use Rattle.numbers.specs.Numbers.{bit}
 
@@ -86,10 +86,6 @@ module _ (S : Seats) where
         keen = λ i. ltb 65535 (best all v ps i);
       }
 
-  -- no payoff is cut off
-  abbrev pub Fair : {A : Type 0} → Market A → ℕ → Table → List ℕ → Type 0
-  Fair M all v ps = (i : ℕ) → Bidder M i → (s : ℕ) → s < all → price ps i s ≤ v i s + 65535
-
   -- place k is that of a bidder and of a bundle that is not empty
   abbrev pub read : ℕ → ℕ → Bool
   read all k = S .taken (k / 16) && (leb 1 (k - 16 * (k / 16)) && ltb (k - 16 * (k / 16)) all)
@@ -106,16 +102,3 @@ module _ (S : Seats) where
 -- rule 4.2: a demand set, of bundles below `all`, as one number
 abbrev pub demandSet : ℕ → Quote → ℕ → ℕ
 demandSet all q i = sum all 0 (λ s. when (q .wants i s) (2 ^ s))
-
--- the list holds the prices of the payoffs π: worths v, bundles below `all`, of which `top` is worth most
-pub record Holds {A : Type 0} (M : Market A) (S : Seats) (all top : ℕ) (v : Table) (ps : List ℕ)
-    (π : ℕ → ℕ) : Type 0 where
-  pub modest : (i : ℕ) → Bidder M i → π i ≤ v i top
-  pub prices : (i : ℕ) → Bidder M i → (s : ℕ) → s < all → price S ps i s ≡ asks v π i s
-
--- bidders with seats, few bundles, `top` one of them, and an empty bundle worth nothing
-pub record Priced {A : Type 0} (M : Market A) (S : Seats) (bits all top : ℕ) (v : Table) : Type 0 where
-  pub seated : Seated S (M .many) (M .low) bits
-  pub small : all ≤ 16
-  pub topped : top < all
-  pub free : (i : ℕ) → Bidder M i → v i 0 ≡ 0

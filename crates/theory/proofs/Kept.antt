@@ -13,14 +13,14 @@ use lib.Dec.{leb}
 use borrow.Author.Tests.{eq-eqb, ne-eqb, not-false}
 use Rattle.theory.specs.Sums.{when, sum, Among}
 use Rattle.theory.specs.Lists.{_∈_, most, upTo}
-use Rattle.theory.specs.Tests.{_⊃_, every, some, Least}
+use Rattle.theory.specs.Tests.{_⊃_, every, some}
 use Rattle.theory.specs.Markets.{Market, Table, sumOf, total, only, asks, lower, without}
 use Rattle.theory.specs.Auction.{Economy, supplied, own, Auction, Ready, Proper, Ranked, Modest, chosen, round}
 use Rattle.theory.specs.Coalitions.{Part, Values, Roster, rosterOf, payoffOf, inside, covers}
 use Rattle.theory.specs.Coalitions.{gain, revenue, suppliedBy, lowestBy}
 use Rattle.theory.specs.Kept.{shared, around, Ranks}
 use Rattle.theory.proofs.Tests.{by-test, fails, Means, itself, and-means, not-means, imp-means, leb-means}
-use Rattle.theory.proofs.Tests.{imp-fails, every-means, every-fails, some-means, least-found}
+use Rattle.theory.proofs.Tests.{imp-fails, every-means, every-fails, some-means, Least, least-found}
 use Rattle.theory.proofs.Sums.{when-up, when-one, sum-mono, sum-same, sum-add, sum-but}
 use Rattle.theory.proofs.Lists.{most-upper, most-is, most-reached, upTo-in}
 use Rattle.theory.proofs.Ascent.{lower-exact}

@@ -6,14 +6,14 @@ use mathlib.Core.Logic.{_↔_, _⊎_, inl, inr}
 use mathlib.Core.Bool.{Bool, true, false, not, _&&_, _||_, true≢false, and-false}
 use mathlib.Core.List.{List, [], _∷_, _++_, map, List·Memᴰ·head as here, List·Memᴰ·tail as there, List·Memᴰ·not-nil}
 use mathlib.Core.List.{List·Memᴰ·cases-cons}
-use Prim.Native.Nat.{ℕ, zero, suc, _≤_}
+use Prim.Native.Nat.{ℕ, zero, suc, _≤_, _<_}
 use native.Mathlib.Omega.{arith}
 use native.Mathlib.Decide.{ℕ-discrete}
 use lib.Dec.{eqb, leb}
 use borrow.Author.Tests.{eqb-true, eq-eqb, leb-true, le-leb, not-true}
 use Rattle.theory.specs.Sums.{Among}
 use Rattle.theory.specs.Lists.{_∈_}
-use Rattle.theory.specs.Tests.{_⊃_, every, some, least, Least}
+use Rattle.theory.specs.Tests.{_⊃_, every, some, least}
 
 -- a proof by cases of a test, each with its equation
 pub by-test : {P : Type 0} (x : Bool) → (x ≡ true → P) → (x ≡ false → P) → P
@@ -116,6 +116,12 @@ some-map t f (a ∷ l) = rw (some-map t f l)
 pub some-last : {A : Type 0} (t : A → Bool) (l : List A) (a : A) → some t (l ++ (a ∷ [])) ≡ (some t l || t a)
 some-last t [] a = by-test (t a) (λ e. rw e) (λ e. rw e)
 some-last t (x ∷ l) a = by-test (t x) (λ e. rw e) (λ e. rw e (some-last t l a))
+
+-- n is the least of the k numbers from s on that passes
+pub record Least (k s : ℕ) (t : ℕ → Bool) (n : ℕ) : Type 0 where
+  pub among : Among k s n
+  pub passes : t n ≡ true
+  pub before : (i : ℕ) → s ≤ i → i < n → t i ≡ false
 
 pub least-none : (k s : ℕ) (t : ℕ → Bool) → least k s t ≡ 0 → (i : ℕ) → Among k s i → t i ≡ false
 least-none zero s t h i r = absurd (omega arith)
