@@ -1,6 +1,6 @@
 -- Lists written over others: what stands where (`over-early`, `over-late`, `over-long`), one number more (`over-more`),
--- and a part lent from n on that comes back with more written at its front (`over-then`). What was written is read back
--- (`over-taken`), and lies within the list (`over-covers`, `front-within`).
+-- and a part lent from n on that comes back with more written at its front (`over-then`). What was written stands at
+-- the front (`Front`, `over-front`), and lies within the list (`front-within`).
 use mathlib.Core.Path.{_≡_, refl, sym, ap, _∙_}
 use mathlib.Core.List.{List, [], _∷_, _++_, append-assoc, append-nil}
 use Prim.Native.Nat.{ℕ, _+_, _-_, _≤_, _<_}
@@ -42,13 +42,20 @@ over-then xs ys o l last n en h e g =
     let k : take n l ≡ xs = rw e (take-at xs (drop (length xs) o) n en) in
     rw (k, p, append-nil, g, t, append-assoc, length-append, en, drop-drop) refl
 
--- the r numbers at the front of a table after they were written over `old`
-module _ (xs old table : List ℕ) (r : ℕ) (er : r ≡ length xs) (et : table ≡ over xs old) where
-  pub over-covers : r ≤ length table
-  over-covers = omega (arith, ap length et, length-append xs (drop (length xs) old))
+-- the r numbers at the front of a table are xs
+pub record Front (xs table : List ℕ) (r : ℕ) : Type 0 where
+  pub covers : r ≤ length table
+  pub long : r ≡ length (take r table)
+  pub taken : take r table ≡ xs
 
-  pub over-taken : take r table ≡ xs
-  over-taken = rw et (take-at xs (drop (length xs) old) r (sym er))
+pub over-front : (xs old table : List ℕ) (r : ℕ) → (r ≡ length xs) × (table ≡ over xs old) → Front xs table r
+over-front xs old table r (er, et) =
+    let taken : take r table ≡ xs = rw et (take-at xs (drop (length xs) old) r (sym er)) in
+    record {
+      covers = omega (arith, ap length et, length-append xs (drop (length xs) old));
+      long = er ∙ sym (ap length taken);
+      taken = taken;
+    }
 
 -- a text at the front of zeros lies within them
 pub front-within : (text : List ℕ) (k : ℕ) → length text ≤ k → length text ≤ length (over text (replicate k 0))

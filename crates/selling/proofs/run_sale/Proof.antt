@@ -1,12 +1,9 @@
 -- `selling::run_sale` meets its contract.
-use mathlib.Core.Path.{_≡_, sym, ap, _∙_}
-use mathlib.Core.List.{List}
-use Prim.Native.Nat.{ℕ}
 use native.Mathlib.Omega.{arith}
-use lib.ListN.{length, take, replicate}
+use lib.ListN.{replicate}
 use borrow.Author.Needs.{needs}
 use Rattle.lists.specs.Words.{lotWords}
-use Rattle.theory.proofs.Over.{over-covers, over-taken}
+use Rattle.theory.proofs.Over.{Front, over-front}
 use Rattle.selling.proofs.Selling.{sale-refused, limit-asks, record-short, rounds-ask, sale-settled}
 use Rattle.selling.proofs.run_sale.Statement.{statement}
 use Rattle.selling.proofs.run_sale.Tie as tie
@@ -52,22 +49,16 @@ module _ (c : tie.After-list-lots) where
   abbrev read : tie.After-read-worths
   read = no-refusal .before .before
 
-  abbrev all : List ℕ
-  all = lotWords (read .read-worths .result .buyers) (read .read-worths .result .lots)
-
-  taken : take (c .list-lots .result) (c .list-lots .last .1 .1 .0) ≡ all
-  taken =
-      over-taken all (replicate 2401 0) (c .list-lots .last .1 .1 .0) (c .list-lots .result) (c .list-lots .ensures .0)
-      (c .list-lots .ensures .1)
+  words :
+      let r = read .read-worths .result in
+      Front (lotWords (r .buyers) (r .lots)) (c .list-lots .last .1 .1 .0) (c .list-lots .result)
+  words = over-front _ (replicate 2401 0) _ _ (c .list-lots .ensures)
 
 array-share-prefix-words : tie.Need-array-share-prefix-words
-array-share-prefix-words c =
-    let w = c .before in
-    over-covers (all w) (replicate 2401 0) (w .list-lots .last .1 .1 .0) (w .list-lots .result)
-    (w .list-lots .ensures .0) (w .list-lots .ensures .1)
+array-share-prefix-words c = words (c .before) .covers
 
 slice-aggregate-sell : tie.Need-slice-aggregate-sell
-slice-aggregate-sell c = let w = c .before .before in w .list-lots .ensures .0 ∙ sym (ap length (taken w))
+slice-aggregate-sell c = words (c .before .before) .long
 
 sell-requires : tie.Need-sell-requires
 sell-requires c κs =
@@ -78,7 +69,7 @@ sell-requires c κs =
       rounds-ask (z .sheet .now) (p .read-worths .result) (p .read-worths .ensures) (z .log .now)
           (no-refusal w .if1 .left) (l .round-limit .result) (l .round-limit .ensures .is) (omega arith)
           (l .round-limit .ensures .most),
-      taken w,
+      words w .taken,
       l .round-limit .ensures .is,
     )
 
