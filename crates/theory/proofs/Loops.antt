@@ -2,7 +2,7 @@
 -- that looks for the first that passes (`least`), that tests all (`every`), that takes in one number after another
 -- (`most`, `sum`, `some`, `every`, and `sum` counting down), that fills a list place by place (`Filled`, `tabulate`),
 -- and that goes over one place by place (`Revised`). Loops over a list: what is still to do from place k on, for the
--- greatest value and the first that passes.
+-- greatest value and the first that passes. A greater value put in its place is the greatest there (`put-rises`).
 use mathlib.Core.Path.{_≡_, refl, sym, ap, subst, _∙_}
 use mathlib.Core.Logic.{⊎-elim}
 use mathlib.Core.Bool.{Bool, true, false, _&&_, _||_, and-assoc, or-assoc}
@@ -11,9 +11,12 @@ use Prim.Native.Nat.{ℕ, suc, max, _+_, _-_, _<_, _≤_}
 use native.Mathlib.Nat.{zero-add, eq-or-lt-of-le}
 use native.Mathlib.Numerals.{add-one}
 use native.Mathlib.Omega.{arith}
+use native.Mathlib.Decide.{ℕ-discrete}
+use lib.Dec.{eqb}
 use lib.ListN.{length, drop, getD, set, length-set, drop-of-length-le}
 use lib.Seq.{getD-set-same, getD-set-other, ext-getD, drop-cons}
-use Rattle.theory.specs.Sums.{pick, sum}
+use borrow.Author.Tests.{eq-eqb, ne-eqb}
+use Rattle.theory.specs.Sums.{pick, when, sum}
 use Rattle.theory.specs.Lists.{most, first, tabulate, upTo}
 use Rattle.theory.specs.Tests.{every, some, least}
 use Rattle.theory.proofs.Lists.{tabulate-at, tabulate-length}
@@ -184,3 +187,19 @@ module _ (P : ℕ → ℕ → Type 0) (n : ℕ) (old : List ℕ) (k : ℕ) (l : 
 
 pub filled-copy : (n k : ℕ) (l t : List ℕ) → n ≤ k → length l ≡ n → Filled (λ j. getD l j 0) n k t → t ≡ l
 filled-copy n k l t h e g = ext-getD 0 t l (g .long ∙ sym e) (λ j q. g .done j (omega (arith, g .long)))
+
+-- a value is put in its place if it is greater
+module _ (l : List ℕ) (k total n : ℕ) where
+  pub put-rises : k < length l → getD l k 0 < total → getD (set l k total) n 0 ≡ max (getD l n 0) (when (eqb k n) total)
+  put-rises h r =
+      elim (ℕ-discrete k n) [
+        | yes e ↦ rw (← e, eq-eqb k k refl, getD-set-same l k total 0 h) (omega arith)
+        | no e ↦ rw (ne-eqb k n e, getD-set-other l k n total 0 (λ q. e (sym q))) (omega arith)
+      ]
+
+  pub put-stays : total ≤ getD l k 0 → getD l n 0 ≡ max (getD l n 0) (when (eqb k n) total)
+  put-stays h =
+      elim (ℕ-discrete k n) [
+        | yes e ↦ rw (← e, eq-eqb k k refl) (omega arith)
+        | no e ↦ rw (ne-eqb k n e) (omega arith)
+      ]

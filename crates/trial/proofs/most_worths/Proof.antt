@@ -7,11 +7,11 @@ use native.Mathlib.Nat.{div-add-mod'}
 use native.Mathlib.Omega.{arith}
 use lib.ListN.{length, take, drop, getD}
 use Rattle.theory.proofs.Loops.{Filled, filled-none, filled-more, filled-all}
-use Rattle.numbers.proofs.Numbers.{pow-some}
+use Rattle.numbers.proofs.Numbers.{pow-some, size-some}
 use Rattle.generator.specs.Xorwow.{drawn, after}
 use Rattle.trial.specs.Worths.{raisedBy, rowUpTo, drawFor, trialAt, mostWorths}
 use Rattle.trial.proofs.Rows.{row-length, row-small}
-use Rattle.trial.proofs.Filling.{size-some, filled-row, filled-next}
+use Rattle.trial.proofs.Filling.{filled-row, filled-next}
 use Rattle.trial.proofs.most_worths.Statement.{statement}
 use Rattle.trial.proofs.most_worths.Tie as tie
 
