@@ -2,9 +2,9 @@
 -- idea: who is not keen demands the empty bundle, so "demanded or empty, and demanded if keen" is "demanded". So the
 -- word, the revenues and the charges that the code finds make up the closing (`closing-is`).
 use mathlib.Core.Path.{_≡_, refl, sym, ap, ap₂, _∙_}
-use mathlib.Core.Bool.{Bool, true, false, not, _&&_, _||_, and-false, or-true}
+use mathlib.Core.Bool.{Bool, true, false, not, _&&_, _||_, and-assoc, or-true}
 use mathlib.Core.List.{List}
-use Prim.Native.Nat.{ℕ, zero, suc, _-_, _≤_, _<_}
+use Prim.Native.Nat.{ℕ, suc, _-_, _≤_, _<_}
 use native.Mathlib.Omega.{arith}
 use lib.Dec.{eqb}
 use lib.ListN.{getD}
@@ -12,7 +12,7 @@ use borrow.Author.Tests.{eqb-true}
 use Rattle.theory.specs.Lists.{_∈_, most, first}
 use Rattle.theory.specs.Tests.{_⊃_, every}
 use Rattle.theory.specs.Markets.{total}
-use Rattle.theory.proofs.Tests.{every-same}
+use Rattle.theory.proofs.Tests.{every-same, every-both}
 use Rattle.theory.proofs.Lists.{most-subset}
 use Rattle.owners.specs.Prices.{entry}
 use Rattle.offers.specs.Offers.{Offer, market, Bids, priceAt, quote, isKeen, revenue}
@@ -30,25 +30,12 @@ use Rattle.offers.specs.Claims.{Regular}
 use Rattle.closing.specs.declared.Closing.{Closing}
 use Rattle.closing.specs.Closings.{saleClosing, wordCloses, discountBy}
 
-every-both : (k s : ℕ) (t u : ℕ → Bool) → (every k s t && every k s u) ≡ every k s (λ i. t i && u i)
-every-both zero s t u = refl
-every-both (suc k) s t u = rw (← every-both k (suc s) t u) (swap (t s) (u s) (every k (suc s) t) (every k (suc s) u))
-  where
-    swap : (a b c d : Bool) → ((a && c) && (b && d)) ≡ ((a && b) && (c && d))
-    swap true true c d = refl
-    swap true false c d = and-false c
-    swap false b c d = refl
-
 demanded-anyway : (empty wanted keen : Bool) → (empty ≡ true → keen ≡ not wanted) →
     ((empty || wanted) && (keen ⊃ wanted)) ≡ wanted
 demanded-anyway true true keen h = or-true (not keen)
 demanded-anyway false true keen h = or-true (not keen)
 demanded-anyway true false keen h = rw (h refl) refl
 demanded-anyway false false keen h = refl
-
-and-assoc : (a b c : Bool) → ((a && b) && c) ≡ (a && (b && c))
-and-assoc true b c = refl
-and-assoc false b c = refl
 
 module _ (O : Offer) (regular : Regular O) (ps : List ℕ) where
   abbrev served : List ℕ → Bool

@@ -3,15 +3,11 @@
 use mathlib.Core.Path.{_≡_, refl, sym, _∙_}
 use mathlib.Core.Bool.{Bool, true, false}
 use Prim.Native.Nat.{ℕ, _+_, _-_, _^_, _≤_, _<_}
-use native.Mathlib.Nat.{zero-add, sub-zero, pow-le-pow-right}
+use native.Mathlib.Nat.{zero-add, sub-zero}
 use native.Mathlib.Numerals.{add-one}
 use native.Mathlib.Omega.{arith}
-use lib.Dec.{lit<}
 use Rattle.theory.specs.Sums.{when, sum}
 use Rattle.theory.proofs.Loops.{sum-more, sum-done}
-
-pub power-small : (k : ℕ) → k ≤ 16 → 2 ^ k ≤ 65536
-power-small k h = pow-le-pow-right {n = 2} (lit< tt) {i = k} {j = 16} h
 
 -- the numbers below k that pass, as a sum of powers, and what is left of the sum of all below n
 pub record Gathered (t : ℕ → Bool) (n k set T : ℕ) : Type 0 where

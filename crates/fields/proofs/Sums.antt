@@ -2,7 +2,7 @@
 -- where no column breaks the rule (`field-sum`). `fields-all` has what is claimed of fields.
 use mathlib.Core.Path.{_≡_, refl, sym, ap, _∙_}
 use mathlib.Core.Logic.{_↔_}
-use mathlib.Core.Bool.{Bool, true, false, _||_}
+use mathlib.Core.Bool.{true, false, _||_}
 use mathlib.Core.List.{List, [], _∷_, _++_}
 use Prim.Native.Nat.{ℕ, zero, suc, _+_, _-_, _*_, _^_, _≤_, _<_}
 use native.Mathlib.Nat.{pow-suc}
@@ -14,8 +14,8 @@ use borrow.Author.Tests.{ltb-true, ltb-false, lt-ltb, le-ltb}
 use Rattle.theory.specs.Sums.{pick, when}
 use Rattle.theory.specs.Tests.{some}
 use Rattle.theory.specs.Lists.{keep, upTo}
-use Rattle.theory.proofs.Tests.{by-test, same-test, fails}
-use Rattle.theory.proofs.Lists.{tabulate-last}
+use Rattle.theory.proofs.Tests.{by-test, same-test, fails, some-last}
+use Rattle.theory.proofs.Lists.{kept-last, tabulate-last}
 use Rattle.fields.specs.declared.Field.{Field}
 use Rattle.fields.specs.declared.Field.the-variants.{Number, Faulty}
 use Rattle.fields.specs.Fields.{fieldFrom, fieldAt, numberOf, isDigit, digitsSum, breaks, brokenBy}
@@ -35,17 +35,6 @@ broken-03 = refl
 
 sum-1 : digitsSum (49 ∷ 32 ∷ []) ≡ 1
 sum-1 = refl
-
--- one member more
-some-last : {A : Type 0} (t : A → Bool) (l : List A) (a : A) → some t (l ++ (a ∷ [])) ≡ (some t l || t a)
-some-last t [] a = by-test (t a) (λ e. rw e) (λ e. rw e)
-some-last t (x ∷ l) a = by-test (t x) (λ e. rw e) (λ e. rw e (some-last t l a))
-
-kept-last : {A : Type 0} (t : A → Bool) (l : List A) (a : A) →
-    length (keep t (l ++ (a ∷ []))) ≡ pick (t a) (suc (length (keep t l))) (length (keep t l))
-kept-last t [] a = by-test (t a) (λ e. rw e) (λ e. rw e)
-kept-last t (x ∷ l) a =
-    by-test (t x) (λ e. rw (e, kept-last t l a) (by-test (t a) (λ f. rw f) (λ f. rw f))) (λ e. rw e (kept-last t l a))
 
 -- the term of a column in the sum, with one column more after it
 term-more : (x b : ℕ) (l : List ℕ) →

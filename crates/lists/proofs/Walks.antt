@@ -1,18 +1,17 @@
 -- The words of the owner lists as a walk writes them, for any order of owners and any shares: how many (`lists-length`,
 -- `written-length`), with no place left (`whole-end`), with one owner more tried (`written-next`), with all
--- (`written-all`), and of all lots (`walked`). `over-taken` reads back what was written.
+-- (`written-all`), and of all lots (`walked`).
 use mathlib.Core.Path.{_≡_, refl, sym, ap, _∙_}
-use mathlib.Core.List.{List, [], _∷_, _++_, map, map-append, append-assoc, append-nil, List·Memᴰ·head as here}
-use mathlib.Core.List.{List·Memᴰ·tail as there}
+use mathlib.Core.List.{List, [], _∷_, _++_, map-append, append-assoc, append-nil}
 use Prim.Native.Nat.{ℕ, zero, suc, _+_, _-_, _*_, _^_, _≤_, _<_}
 use native.Mathlib.Nat.{pow-zero, pow-succ', pow-le-pow-left, pow-le-pow-right, mul-le-mul-right, add-mul}
 use native.Mathlib.Numerals.{add-one}
 use native.Mathlib.Omega.{arith}
 use lib.Dec.{lit<}
-use lib.ListN.{length, take, drop, getD, set, length-append, length-map, length-take}
-use lib.Seq.{take-at, take-suc, take-suc-set, take-all, length-take-le}
-use Rattle.theory.specs.Lists.{_∈_, over}
-use Rattle.theory.proofs.Lists.{tabulate-take, tabulate-each}
+use lib.ListN.{length, take, getD, set, length-append, length-map, length-take}
+use lib.Seq.{take-suc, take-suc-set, take-all, length-take-le}
+use Rattle.theory.specs.Lists.{over}
+use Rattle.theory.proofs.Lists.{map-same, tabulate-take, tabulate-each}
 use Rattle.owners.specs.Owners.{withOwner, spread, allocations, zeroFirst, single}
 use Rattle.owners.specs.Singles.{AtMost}
 use Rattle.owners.proofs.Owners.{allocation-from}
@@ -23,10 +22,6 @@ module _ (share : ℕ → ℕ) (pre : List ℕ) (o : ℕ) where
   map-owner : (al : List (List ℕ)) → wordsAfter share pre (withOwner o al) ≡ wordsAfter share (pre ++ (o ∷ [])) al
   map-owner [] = refl
   map-owner (a ∷ al) = rw (append-assoc pre (o ∷ []) a, map-owner al) refl
-
-pub map-same : {A : Type 0} {f g : A → ℕ} (l : List A) → ((a : A) → a ∈ l → f a ≡ g a) → map f l ≡ map g l
-map-same [] h = refl
-map-same (a ∷ l) h = rw (h a (here refl), map-same l (λ b q. h b (there q)))
 
 spread-last : (os : List ℕ) (o : ℕ) (al : List (List ℕ)) → spread (os ++ (o ∷ [])) al ≡ spread os al ++ withOwner o al
 spread-last [] o al = append-nil (withOwner o al)
@@ -160,11 +155,3 @@ module _ (m n : ℕ) (few : m ≤ 6) (short : n ≤ 4) where
     er ∙ sym (whole-length (shareIn (1 ∷ 2 ∷ 4 ∷ 8 ∷ [])) order (take (n - n) pre) n) ∙ ap length (listed pre),
     en ∙ ap (λ l. over l old) (listed pre),
   )
-
--- the r words that stand in a table after they were written over `old`
-module _ (xs old table : List ℕ) (r : ℕ) (er : r ≡ length xs) (et : table ≡ over xs old) where
-  pub over-covers : r ≤ length table
-  over-covers = omega (arith, ap length et, length-append xs (drop (length xs) old))
-
-  pub over-taken : take r table ≡ xs
-  over-taken = rw et (take-at xs (drop (length xs) old) r (sym er))

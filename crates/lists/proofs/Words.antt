@@ -1,6 +1,7 @@
 -- Digits are read as they were packed (`pack-read`): a bidder's bundle (`word-bundle`), a place's owner (`word-owner`),
--- and all owners (`word-owners`). Place by place the same word is made (`word-first`, `word-next`, `word-done`). For
--- owners up to 6 and bundles below 16, as `Packs` says; allocations of four lots are such (`lots-pack`).
+-- and all owners (`word-owners`). Place by place (`wordFrom`) the same word is made (`word-first`, `word-next`,
+-- `word-done`). For owners up to 6 and bundles below 16, as `Packs` says; allocations of four lots are such
+-- (`lots-pack`).
 use mathlib.Core.Path.{_≡_, refl, sym, ap, _∙_}
 use mathlib.Core.List.{List, [], _∷_, _++_}
 use mathlib.Core.List.{List·Memᴰ·head as here, List·Memᴰ·tail as there, List·Memᴰ·not-nil}
@@ -25,7 +26,7 @@ use Rattle.owners.specs.Singles.{AtMost}
 use Rattle.owners.proofs.Owners.{allocation-from}
 use Rattle.owners.proofs.Singles.{singles-below}
 use Rattle.offers.specs.Places.{four}
-use Rattle.lists.specs.Words.{Packs, pack, digit, bundles, wordOf, part, wordFrom, ownersOf, shareIn}
+use Rattle.lists.specs.Words.{Packs, pack, digit, bundles, wordOf, ownersOf, shareIn}
 
 -- digits
 pub sixteens : (k : ℕ) → 2 ^ (4 * k) ≡ 16 ^ k
@@ -91,6 +92,15 @@ owner-small : (a : List ℕ) → ((o : ℕ) → o ∈ a → o < 7) → (j : ℕ)
 owner-small [] h j = omega arith
 owner-small (o ∷ a) h zero = omega (arith, h o (here refl))
 owner-small (o ∷ a) h (suc j) = owner-small a (λ p q. h p (there q)) j
+
+-- a word made place by place: what owner o of place j adds, and the word w with the owners of the places from j on
+module _ (share : ℕ → ℕ) where
+  abbrev part : ℕ → ℕ → ℕ
+  part j o = share j * 16 ^ o + o * 16 ^ (7 + j)
+
+  abbrev pub wordFrom : ℕ → ℕ → List ℕ → ℕ
+  wordFrom w j [] = w
+  wordFrom w j (o ∷ a) = wordFrom (w + part j o) (suc j) a
 
 module _ (share : ℕ → ℕ) where
   bundles-length : (j : ℕ) (a : List ℕ) → length (bundles share j a) ≡ 7

@@ -1,10 +1,9 @@
 -- An allocation as one number, in digits of base sixteen: seven for the bundles of the bidders 0 to 6 (what nobody owns
--- is 0's), then one for the owner of each place. Offers `wordOf`, `digit`, which reads a word, `wordFrom`, the word as
--- it is made place by place, `lotWords`, those of all allocations, and the market by words. A place's share of a bundle
--- is a parameter.
+-- is 0's), then one for the owner of each place. Offers `wordOf`, `digit`, which reads a word, `lotWords`, those of all
+-- allocations, and the market by words. A place's share of a bundle is a parameter.
 use mathlib.Core.Path.{_≡_}
 use mathlib.Core.List.{List, [], _∷_, _++_, map}
-use Prim.Native.Nat.{ℕ, suc, _+_, _*_, _/_, _%_, _^_, _≤_, _<_}
+use Prim.Native.Nat.{ℕ, _+_, _*_, _/_, _%_, _^_, _≤_, _<_}
 use lib.ListN.{length, getD}
 use Rattle.theory.specs.Lists.{_∈_, tabulate}
 use Rattle.theory.specs.Markets.{Market}
@@ -39,15 +38,6 @@ module _ (share : ℕ → ℕ) where
   -- the words of the lists that begin with the owners `pre`
   abbrev pub wordsAfter : List ℕ → List (List ℕ) → List ℕ
   wordsAfter pre al = map (λ a. wordOf (pre ++ a)) al
-
-  -- what owner o of place j adds to a word
-  abbrev pub part : ℕ → ℕ → ℕ
-  part j o = share j * 16 ^ o + o * 16 ^ (7 + j)
-
-  -- the word w with the owners of the places from j on
-  abbrev pub wordFrom : ℕ → ℕ → List ℕ → ℕ
-  wordFrom w j [] = w
-  wordFrom w j (o ∷ a) = wordFrom (w + part j o) (suc j) a
 
 -- the words of an offer's allocations
 abbrev pub wordsOf : Offer → List ℕ

@@ -1,7 +1,8 @@
 -- Powers, products and remainders.
-use mathlib.Core.Path.{_≡_}
-use Prim.Native.Nat.{ℕ, zero, suc, _*_, _/_, _%_, _^_, _<_, _≤_}
-use native.Mathlib.Nat.{one-mul, mod-eq-of-lt, mod-lt, pow-le-pow-right, mul-le-mul, div-lt-iff-lt-mul}
+use mathlib.Core.Path.{_≡_, _∙_}
+use Prim.Native.Nat.{ℕ, zero, suc, _+_, _-_, _*_, _/_, _%_, _^_, _<_, _≤_}
+use native.Mathlib.Nat.{add-zero, one-mul, suc-mul, mul-le-mul, mul-le-mul-right, pow-le-pow-right, div-eq-of-lt}
+use native.Mathlib.Nat.{mod-eq-of-lt, mod-lt, div-lt-iff-lt-mul, mul-add-div-right, mul-add-mod-self-right}
 use native.Mathlib.Omega.{arith}
 use lib.Dec.{lit<}
 use lib.Pow.{pow-mono}
@@ -12,6 +13,9 @@ pow-small n h = pow-le-pow-right {n = 2} (lit< tt) h
 
 pub pow-some : (n : ℕ) → 1 ≤ 2 ^ n
 pow-some n = pow-le-pow-right {n = 2} (lit< tt) {i = 0} {j = n} (omega arith)
+
+pub size-some : (n : ℕ) → 1 ≤ n → 1 ≤ 2 ^ n - 1
+size-some n h = omega (arith, pow-le-pow-right {n = 2} (lit< tt) {i = 1} {j = n} h)
 
 pub shifted : (n : ℕ) → n ≤ 16 → 1 * 2 ^ n % 2 ^ 64 ≡ 2 ^ n
 shifted n h = rw one-mul (mod-eq-of-lt (omega (arith, pow-mono {i = n} {j = 16} h)))
@@ -34,3 +38,14 @@ line-below k m z h g = div-lt-iff-lt-mul h .1 g
 
 pub place-below : (k z : ℕ) → 1 ≤ z → k % z < z
 place-below k z h = mod-lt k h
+
+-- places counted through the lines, z to a line
+module _ (z : ℕ) (some : 1 ≤ z) where
+  pub count-below : (m i c : ℕ) → i < m → c < z → i * z + c < m * z
+  count-below m i c h g = omega (arith, suc-mul i z, mul-le-mul-right {m = suc i} {n = m} z h)
+
+  pub count-line : (i c : ℕ) → c < z → (i * z + c) / z ≡ i
+  count-line i c g = mul-add-div-right some i c ∙ rw (div-eq-of-lt g) (add-zero i)
+
+  pub count-place : (i c : ℕ) → c < z → (i * z + c) % z ≡ c
+  count-place i c g = mul-add-mod-self-right i z c ∙ mod-eq-of-lt g

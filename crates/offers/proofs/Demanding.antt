@@ -10,9 +10,8 @@ use Rattle.theory.specs.Sums.{when}
 use Rattle.theory.specs.Universal.{Answers}
 use Rattle.theory.proofs.Tests.{Means}
 use Rattle.numbers.specs.Numbers.{bit}
-use Rattle.owners.specs.Prices.{Priced}
 use Rattle.owners.proofs.Bits.{demand-bit}
-use Rattle.owners.proofs.Prices.{small-fair, quote-answers, raised-price as price-raised}
+use Rattle.owners.proofs.Prices.{Priced, small-fair, quote-answers, raised-price as price-raised}
 use Rattle.owners.proofs.Sales.{priced}
 use Rattle.offers.specs.Offers.{Offer, market, Bids, seats, member, bits, worthOf, priceAt, theAuction, best}
 use Rattle.offers.specs.Offers.{quote}

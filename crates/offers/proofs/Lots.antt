@@ -1,9 +1,9 @@
 -- The lots of a sheet are an offer that the theory is about (`lots-regular`, and of accepted sheets `regular`), and
 -- their allocations are all owner lists, in order (`allocated`).
-use mathlib.Core.Path.{_≡_, refl, sym, ap₂, _∙_}
+use mathlib.Core.Path.{_≡_, refl, sym, _∙_}
 use mathlib.Core.Logic.{_≢_, _↔_}
 use mathlib.Core.Bool.{true}
-use mathlib.Core.List.{List, [], _∷_, List·Memᴰ·head as here, List·Memᴰ·tail as there}
+use mathlib.Core.List.{List}
 use Prim.Native.Nat.{ℕ, zero, suc, _-_, _^_, _≤_, _<_}
 use native.Mathlib.Omega.{arith}
 use native.Mathlib.Decide.{ℕ-discrete}
@@ -11,7 +11,7 @@ use lib.ListN.{length, getD, replicate}
 use borrow.Author.Tests.{eq-eqb, ne-eqb, eqb-true}
 use Rattle.theory.specs.Lists.{_∈_, Ordered}
 use Rattle.theory.specs.Tests.{every}
-use Rattle.theory.proofs.Lists.{keep-in, keep-from, upTo-in, upTo-from}
+use Rattle.theory.proofs.Lists.{keep-in, keep-from, upTo-in, upTo-from, first-ordered, all-zero}
 use Rattle.theory.proofs.Tests.{itself, every-means}
 use Rattle.numbers.specs.Numbers.{bit}
 use Rattle.numbers.proofs.Numbers.{pow-some}
@@ -26,13 +26,6 @@ use Rattle.sheet.specs.Claims.{Shape}
 use Rattle.sheet.proofs.Theorems.{accepted-shape, accepted-monotone}
 use Rattle.offers.specs.Offers.{Offer, lotsAmong, lotsOf, market, worthOf, economy}
 use Rattle.offers.specs.Claims.{Allocated, Regular}
-
--- owners that are all 0
-all-zero : (n : ℕ) (a : List ℕ) → length a ≡ n → ((o : ℕ) → o ∈ a → o ≡ 0) → a ≡ replicate n 0
-all-zero zero [] e h = refl
-all-zero zero (o ∷ a) e h = absurd (omega arith)
-all-zero (suc n) [] e h = absurd (omega arith)
-all-zero (suc n) (o ∷ a) e h = ap₂ (λ x l. x ∷ l) (h o (here refl)) (all-zero n a (omega arith) (λ x m. h x (there m)))
 
 -- lots of which nobody has one
 replicate-lacks : (i n : ℕ) → 1 ≤ i → lacks i (replicate n 0) ≡ true
@@ -52,7 +45,7 @@ module _ (m n : ℕ) (ws : List ℕ) where
 
   -- in the order of rule 1.10
   pub allocations-ordered : Ordered (ComesBefore _<_) (O .lists)
-  allocations-ordered = order.allocations-ordered _<_ (zeroFirst m) (order.first-ordered (suc m) 0) n
+  allocations-ordered = order.allocations-ordered _<_ (zeroFirst m) (first-ordered (suc m) 0) n
 
   -- the economy without e has the allocations that give e nothing
   pub economy-all : (e : ℕ) → 1 ≤ e → (a : List ℕ) → (a ∈ economy O e) ↔ ((a ∈ O .lists) × (lacks e a ≡ true))

@@ -12,8 +12,7 @@ use Rattle.theory.specs.Lists.{_∈_, Ordered}
 use Rattle.theory.proofs.Lists.{most-subset}
 use Rattle.theory.proofs.Outcome as outcome
 use Rattle.theory.proofs.Settled as settled
-use Rattle.owners.specs.Sales.{Third}
-use Rattle.owners.proofs.Sales.{sale-third, no-gain-direct}
+use Rattle.owners.proofs.Sales.{Third, sale-third, no-gain-direct}
 use Rattle.offers.specs.Offers.{Offer, market, Bids, seats, bits, worthOf, priceAt, without, theAuction}
 use Rattle.offers.specs.Rounds.{roundLimit, startPrices, pricesFrom, lastPrices, ownersBy, discountFor}
 use Rattle.offers.specs.Rounds.{paymentFor}

@@ -18,15 +18,16 @@ use Rattle.theory.specs.Auction.{Economy, Minimal, supplied, fits as fits-of, A
 use Rattle.theory.specs.Universal.{Competitive, Universal, Answers, Bundled}
 use Rattle.theory.proofs.Sums.{sum-same}
 use Rattle.theory.proofs.Tests.{by-test, fails, itself, and-means, leb-means, least-none}
+use Rattle.theory.proofs.Rounds.{after-one}
 use Rattle.theory.proofs.Payments.{discount-exact}
 use Rattle.theory.proofs.Auction.{supplied-means, undersupplied-means, undersupplied-keen, settled-iff}
 use Rattle.theory.proofs.Auction.{lowest-least as least-of, lowest-minimal as minimal-of}
 use Rattle.theory.proofs.Universal.{closing-competitive}
 use Rattle.owners.specs.Prices.{Seats, zeros, read}
-use Rattle.owners.specs.Sales as sales
+use Rattle.owners.specs.Sales.{limit}
 use Rattle.owners.proofs.Prices.{small-fair, raised-long, quote-answers, best-is}
 use Rattle.owners.proofs.Economies.{whole-in}
-use Rattle.owners.proofs.Sales.{priced, begins, settled-is, table-kept, ends-fair, sale-second}
+use Rattle.owners.proofs.Sales.{Second, priced, begins, settled-is, table-kept, ends-fair, sale-second}
 use Rattle.numbers.proofs.Numbers.{pow-some}
 use Rattle.offers.specs.Offers.{Offer, market, Bids, seats, member, bits, worthOf, priceAt, theAuction, economy}
 use Rattle.offers.specs.Offers.{best, quote, revenue, fits, undersupplied, lowest}
@@ -34,13 +35,6 @@ use Rattle.offers.specs.Rounds.{raised, roundLimit, startPrices, setsFro
 use Rattle.offers.specs.Rounds.{lastPrices, ownersBy, discountFor}
 use Rattle.offers.specs.Claims.{Prices, Supports, UCE, setAt, Ascending, Regular}
 use Rattle.offers.proofs.Economies.{Numbers, economy-number, number-economy, economy-fewer}
-
--- the state after one choice more
-after-one : {A : Type 0} (step : ℕ → A → A) (σ : A) (l : List ℕ) (k : ℕ) → k < length l → after step σ (take (suc k) l)
-    ≡ step (getD l k 0) (after step σ (take k l))
-after-one step σ [] k h = absurd (omega arith)
-after-one step σ (x ∷ l) zero h = refl
-after-one step σ (x ∷ l) (suc k) h = after-one step (step x σ) l k (omega arith)
 
 -- prices are as many in every round
 after-long : (O : Offer) (l ps : List ℕ) → length ps ≡ 16 * seats O .rows →
@@ -140,10 +134,10 @@ module _ (O : Offer) (regular : Regular O) where
   exact-discount ps (suc i) r = discount-exact (market O) (priceAt O ps) (economy-fewer O (suc i))
 
   -- demand 2
-  room : sales.limit X S all (worthOf O) ≤ roundLimit O
+  room : limit X S all (worthOf O) ≤ roundLimit O
   room = omega arith
 
-  second : sales.Second X S all (worthOf O) (zeros S) (start X (worthOf O)) (roundLimit O)
+  second : Second X S all (worthOf O) (zeros S) (start X (worthOf O)) (roundLimit O)
   second = sale-second X S all (bits O) (O .lists) (regular .hall) (worthOf O) (regular .worths) (roundLimit O) room
 
   settles : lowest O (lastPrices O) ≡ 0

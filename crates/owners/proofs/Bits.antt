@@ -1,7 +1,7 @@
 -- Each set of bidders has a number, the sum of 2 ^ j over its bidders' seats j, and a proper subset has a lower one
--- (`seats-ranked`). Offers the laws of `number` (`number-bit`, `number-below`, and `number-down` for loops), of demand
--- sets (`demand-bit`, `demand-below`), and that m buyers sit (`plain-seated`).
-use mathlib.Core.Path.{_≡_, sym, ap, _∙_}
+-- (`seats-ranked`). Offers the laws of `number` (`number-bit`, `number-below`, `number-same`, and `number-down` for
+-- loops), of demand sets (`demand-bit`, `demand-below`), and that m buyers sit (`plain-seated`).
+use mathlib.Core.Path.{_≡_, refl, sym, ap, _∙_}
 use mathlib.Core.Bool.{Bool, true, false, _&&_}
 use Prim.Native.Nat.{ℕ, zero, suc, _+_, _-_, _*_, _/_, _%_, _^_, _≤_, _<_}
 use native.Mathlib.Nat.{zero-add, one-mul, pow-succ'}
@@ -43,6 +43,11 @@ number-bit (suc k) s t (suc j) h =
 
 pub number-small : (k s : ℕ) (t : ℕ → Bool) → k ≤ 6 → number k s t < 64
 number-small k s t h = omega (arith, number-below k s t, pow-mono {i = k} {j = 6} h)
+
+pub number-same : (k s : ℕ) (t u : ℕ → Bool) → ((i : ℕ) → Among k s i → t i ≡ u i) → number k s t ≡ number k s u
+unfolding number
+number-same zero s t u h = refl
+number-same (suc k) s t u h = rw (h s (omega arith), number-same k (suc s) t u (λ i r. h i (omega arith)))
 
 -- a number of some of 1 to m, of which those above i are in n
 pub number-none : (m : ℕ) (t : ℕ → Bool) → 0 ≡ number (m - m) (suc m) t

@@ -6,8 +6,8 @@ use mathlib.Core.List.{List, [], _∷_, List·Memᴰ·not-nil}
 use Prim.Native.Nat.{ℕ, zero, suc, _<_}
 use native.Mathlib.Omega.{arith}
 use lib.ListN.{length, take, getD}
-use Rattle.theory.specs.Lists.{Ordered, upTo}
-use Rattle.theory.proofs.Lists.{ordered-append, upTo-from}
+use Rattle.theory.specs.Lists.{Ordered}
+use Rattle.theory.proofs.Lists.{ordered-append}
 use Rattle.owners.specs.Owners.{withOwner, spread, allocations, ComesBefore}
 use Rattle.owners.proofs.Owners.{owner-from, spread-from}
 
@@ -46,7 +46,3 @@ comes-before earlier (o ∷ x) (p ∷ y) (inl h) = (0, omega arith, refl, h)
 comes-before earlier (o ∷ x) (p ∷ y) (inr (e, c)) =
     let (j, h, same, less) = comes-before earlier x y c in
     (suc j, omega arith, rw e (ap (λ l. p ∷ l) same), less)
-
-pub first-ordered : (k s : ℕ) → Ordered _<_ (upTo k s)
-first-ordered zero s = tt
-first-ordered (suc k) s = (λ b h. omega (arith, upTo-from k (suc s) h), first-ordered k (suc s))

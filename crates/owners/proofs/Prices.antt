@@ -21,8 +21,19 @@ use Rattle.theory.specs.Universal.{Answers}
 use Rattle.theory.proofs.Tests.{by-test, same-test, not-means, means-via, eqb-means, leb-means}
 use Rattle.theory.proofs.Lists.{most-same, most-upper, most-reached, upTo-in, upTo-from, tabulate-at, tabulate-length}
 use Rattle.theory.proofs.Ascent.{asks-best, asks-raised}
-use Rattle.owners.specs.Prices.{Seats, plain, zeros, price, payoff, best, quote, Fair, Holds, Priced}
-use Rattle.owners.specs.Prices.{read, raisedAt, raised}
+use Rattle.owners.specs.Prices.{Seats, Seated, plain, zeros, price, payoff, best, quote, read, raisedAt, raised}
+use Rattle.owners.specs.Prices.{Holds}
+
+-- no payoff is cut off
+abbrev pub Fair : (S : Seats) {A : Type 0} → Market A → ℕ → Table → List ℕ → Type 0
+Fair S M all v ps = (i : ℕ) → Bidder M i → (s : ℕ) → s < all → price S ps i s ≤ v i s + 65535
+
+-- bidders with seats, few bundles, `top` one of them, and an empty bundle worth nothing
+pub record Priced {A : Type 0} (M : Market A) (S : Seats) (bits all top : ℕ) (v : Table) : Type 0 where
+  pub seated : Seated S (M .many) (M .low) bits
+  pub small : all ≤ 16
+  pub topped : top < all
+  pub free : (i : ℕ) → Bidder M i → v i 0 ≡ 0
 
 -- prices up to 65,535 are fair; and so are a sale's own
 pub small-fair : {A : Type 0} (M : Market A) (S : Seats) (all : ℕ) (v : Table) (ps : List ℕ) →

@@ -86,10 +86,6 @@ module _ (S : Seats) where
         keen = λ i. ltb 65535 (best all v ps i);
       }
 
-  -- no payoff is cut off
-  abbrev pub Fair : {A : Type 0} → Market A → ℕ → Table → List ℕ → Type 0
-  Fair M all v ps = (i : ℕ) → Bidder M i → (s : ℕ) → s < all → price ps i s ≤ v i s + 65535
-
   -- place k is that of a bidder and of a bundle that is not empty
   abbrev pub read : ℕ → ℕ → Bool
   read all k = S .taken (k / 16) && (leb 1 (k - 16 * (k / 16)) && ltb (k - 16 * (k / 16)) all)
@@ -112,10 +108,3 @@ pub record Holds {A : Type 0} (M : Market A) (S : Seats) (all top : ℕ) (v : Ta
     (π : ℕ → ℕ) : Type 0 where
   pub modest : (i : ℕ) → Bidder M i → π i ≤ v i top
   pub prices : (i : ℕ) → Bidder M i → (s : ℕ) → s < all → price S ps i s ≡ asks v π i s
-
--- bidders with seats, few bundles, `top` one of them, and an empty bundle worth nothing
-pub record Priced {A : Type 0} (M : Market A) (S : Seats) (bits all top : ℕ) (v : Table) : Type 0 where
-  pub seated : Seated S (M .many) (M .low) bits
-  pub small : all ≤ 16
-  pub topped : top < all
-  pub free : (i : ℕ) → Bidder M i → v i 0 ≡ 0

@@ -1,7 +1,6 @@
 -- The rounds of a sale by coalition values. What a bidder has left is read off the prices of the bundle of all, the
--- lowest undersupplied set follows from it and the values, and the raise from it and the worths. Offers `quickChoice`
--- and `quickStep`, which do what the definition's `choose` and `step` do along a sale; and the roster of m buyers
--- (`rosterIn`).
+-- lowest undersupplied set follows from it and the values, and the raise from it and the worths. Offers `left`,
+-- `raisedBy`, and the roster of m buyers (`rosterIn`).
 use mathlib.Core.Bool.{Bool, true, _&&_}
 use mathlib.Core.List.{List}
 use Prim.Native.Nat.{ℕ, zero, suc, _+_, _-_, _*_, _/_, _^_}
@@ -10,8 +9,7 @@ use lib.ListN.{getD}
 use Rattle.theory.specs.Sums.{when}
 use Rattle.theory.specs.Lists.{tabulate}
 use Rattle.theory.specs.Markets.{Table, without}
-use Rattle.theory.specs.Auction.{Auction}
-use Rattle.theory.specs.Coalitions.{Roster, rosterOf, lowestBy}
+use Rattle.theory.specs.Coalitions.{Roster}
 use Rattle.owners.specs.Owners.{member}
 use Rattle.owners.specs.Prices.{Seats, price}
 
@@ -30,13 +28,6 @@ module _ (S : Seats) where
 
   unfoldable pub raisedBy : ℕ → Table → (ℕ → Bool) → (ℕ → ℕ) → List ℕ → List ℕ
   raisedBy all v set π ps = tabulate (16 * S .rows) 0 (risenAt all v set π ps)
-
-module _ {A : Type 0} (X : Auction A) (S : Seats) (all : ℕ) (v : Table) where
-  abbrev pub quickChoice : ℕ → (ℕ → ℕ) → List ℕ → ℕ
-  quickChoice shift value ps = lowestBy (rosterOf X) shift value (left S v (X .top) ps)
-
-  abbrev pub quickStep : ℕ → List ℕ → List ℕ
-  quickStep x ps = raisedBy S all v (X .member x) (left S v (X .top) ps) ps
 
 -- who is present in economy e of m buyers: everybody in 0, and in another everybody but buyer e
 abbrev pub presentIn : ℕ → ℕ → Bool

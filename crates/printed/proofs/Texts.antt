@@ -14,7 +14,7 @@ use borrow.Author.Tests.{eq-eqb, ne-eqb}
 use Rattle.theory.specs.Sums.{pick}
 use Rattle.theory.specs.Lists.{over}
 use Rattle.theory.proofs.Tests.{by-test}
-use Rattle.printing.proofs.Lines.{front-within}
+use Rattle.theory.proofs.Over.{front-within}
 use Rattle.fields.proofs.Lines.{line-length}
 use Rattle.sheet.specs.Questions.{accepts, onward, sheetFault}
 use Rattle.sheet.specs.declared.Fault.{Fault}

@@ -1,13 +1,12 @@
 -- A line printed field by field: one field more (`fields-more`), and the line end (`line-end`); and lines of the same
--- length, one line more (`lines-more`). Assumes room for them. A text in a longer buffer lies within it
--- (`front-within`).
+-- length, one line more (`lines-more`). Assumes room for them.
 use mathlib.Core.Path.{_≡_, sym, ap, _∙_}
 use mathlib.Core.List.{List, [], _∷_, _++_, append-nil}
 use Prim.Native.Nat.{ℕ, suc, _+_, _-_, _*_, _≤_, _<_}
 use native.Mathlib.Nat.{zero-add}
 use native.Mathlib.Numerals.{add-one}
 use native.Mathlib.Omega.{arith}
-use lib.ListN.{length, take, drop, set, getD, replicate, length-replicate}
+use lib.ListN.{length, take, drop, set, getD}
 use lib.Seq.{take-suc, length-take-le}
 use borrow.Rule.Slice.PartMut.{putMid}
 use Rattle.theory.specs.Lists.{tabulate, over}
@@ -62,9 +61,3 @@ module _ (f : ℕ → List ℕ) (wide : ℕ) (each : (i : ℕ) → length (lineO
             ap (λ x. linesOf (tabulate k 0 f) ++ x) (sym (append-nil (lineOf (f k))))
             ∙ sym (lines-append (tabulate k 0 f) (f k ∷ []))
             ∙ ap linesOf (ap (λ i. tabulate k 0 f ++ (f i ∷ [])) (sym (zero-add k)) ∙ sym (tabulate-last k 0 f))
-
--- a text at the front of zeros lies within them
-pub front-within : (text : List ℕ) (k : ℕ) → length text ≤ k → length text ≤ length (over text (replicate k 0))
-front-within text k h =
-    let zeros = length-replicate {A = ℕ} k 0 in
-    omega (arith, over-long text (replicate k 0) (omega (arith, zeros)), zeros)

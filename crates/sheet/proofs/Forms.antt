@@ -1,7 +1,7 @@
--- Answers made of a fault (`Form`): `told-number` and `told-place` say which number and place such an answer has,
--- `told-yes` and `told-no` whether it accepts. The fault of an entry that asks a question of its own is the sheet's,
--- none, or that question's (`asked-first`, `asked-yes`, `asked-no`); none has place 0 (`asked-place`). With a "yes" it
--- is the sheet's (`asked-same`).
+-- Answers made of a fault (`Told`, `told`): which number and place such an answer has, what it is where it accepts, and
+-- where it refuses. The fault of an entry that asks a question of its own is the sheet's, none, or that question's
+-- (`asked-first`, `asked-yes`, `asked-no`); none has place 0 (`asked-place`). With a "yes" it is the sheet's
+-- (`asked-same`).
 use mathlib.Core.Path.{_≡_, refl, sym, ap, ap₂, _∙_}
 use mathlib.Core.Logic.{_≢_}
 use mathlib.Core.Bool.{Bool, true, false}
@@ -12,40 +12,37 @@ use Rattle.theory.proofs.Tests.{by-test}
 use Rattle.sheet.specs.declared.Fault.{Fault}
 use Rattle.sheet.specs.Questions.{fault, accepts, onward, ask}
 
--- an answer where a fault is none, and where there is one
-pub record Form (A : Type 0) : Type 0 where
-  pub number : A → ℕ
-  pub place : A → ℕ
-  pub yes : A
-  pub no : Fault → A
-  pub number-yes : number yes ≡ 0
-  pub place-yes : place yes ≡ 0
-  pub number-no : (g : Fault) → number (no g) ≡ g .number
-  pub place-no : (g : Fault) → place (no g) ≡ g .place
+-- r answers with the fault g: `good` where it is none, and else `bad`, with its number and place
+pub record Told {A : Type 0} (number place : A → ℕ) (good : A) (bad : Fault → A) (g : Fault) (r : A) : Type 0 where
+  pub numbered : number r ≡ g .number
+  pub placed : (g .number ≡ 0 → g .place ≡ 0) → place r ≡ g .place
+  pub accepted : g .number ≡ 0 → r ≡ good
+  pub refused : number r ≢ 0 → r ≡ bad (fault (number r) (place r))
 
-module _ {A : Type 0} (F : Form A) (g : Fault) where
-  abbrev pub told : A
-  told = onward (accepts g) (λ _. F .yes) (F .no g)
-
-  pub told-number : F .number told ≡ g .number
-  told-number =
-      by-test (accepts g) (λ t. rw t (F .number-yes ∙ sym (eqb-true (g .number) 0 t))) (λ t. rw t (F .number-no g))
-
-  pub told-place : (g .number ≡ 0 → g .place ≡ 0) → F .place told ≡ g .place
-  told-place h =
-      by-test (accepts g) (λ t. rw t (F .place-yes ∙ sym (h (eqb-true (g .number) 0 t)))) (λ t. rw t (F .place-no g))
-
-  pub told-yes : F .number told ≡ 0 → told ≡ F .yes
-  told-yes z = rw (eq-eqb (g .number) 0 (sym told-number ∙ z))
-
-  pub told-no : F .number told ≢ 0 → told ≡ F .no g
-  told-no h = rw (ne-eqb (g .number) 0 (λ z. h (told-number ∙ z)))
-
-  -- a refusal, by its own number and place
-  pub told-again : F .number told ≢ 0 → told ≡ F .no (fault (F .number told) (F .place told))
-  told-again h =
-      let e = told-no h in
-      e ∙ ap (F .no) (ap₂ fault (sym told-number) (sym (ap (F .place) e ∙ F .place-no g)))
+pub told : {A : Type 0} (number place : A → ℕ) (good : A) (bad : Fault → A) → number good ≡ 0 → place good ≡ 0 →
+    ((g : Fault) → number (bad g) ≡ g .number) → ((g : Fault) → place (bad g) ≡ g .place) → (g : Fault) (r : A) →
+    r ≡ onward (accepts g) (λ _. good) (bad g) → Told number place good bad g r
+told number place good bad number-good place-good number-bad place-bad g r e =
+    by-test (accepts g)
+    (λ t.
+    let none = eqb-true (g .number) 0 t in
+    let is : r ≡ good = rw t at e in
+    let zero = ap number is ∙ number-good in
+    record {
+      numbered = zero ∙ sym none;
+      placed = λ h. ap place is ∙ place-good ∙ sym (h none);
+      accepted = λ _. is;
+      refused = λ h. absurd (h zero);
+    })
+    (λ t.
+    let is : r ≡ bad g = rw t at e in
+    let same = ap number is ∙ number-bad g in
+    record {
+      numbered = same;
+      placed = λ _. ap place is ∙ place-bad g;
+      accepted = λ z. absurd (eqb-false (g .number) 0 t z);
+      refused = λ _. is ∙ ap bad (ap₂ fault (sym same) (sym (ap place is ∙ place-bad g)));
+    })
 
 -- the fault of an entry with a question of its own, x
 module _ (own : ℕ) (x : Bool) (f : Fault) where

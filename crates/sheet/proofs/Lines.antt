@@ -2,19 +2,18 @@
 -- wrong place has the least offset), and for each question what its "no" and its "yes" mean.
 use mathlib.Core.Path.{_≡_, refl, sym, ap, _∙_}
 use mathlib.Core.Logic.{_⊎_, inl, inr}
-use mathlib.Core.Bool.{Bool, true, false, not}
+use mathlib.Core.Bool.{true, false, not}
 use mathlib.Core.List.{List, [], _∷_}
 use Prim.Native.Nat.{ℕ, zero, suc, _+_, _-_, _*_, _/_, _%_, _^_, _≤_, _<_}
-use native.Mathlib.Nat.{add-zero, suc-mul, mul-le-mul-right, div-add-mod', mul-add-div-right, mul-add-mod-self-right}
-use native.Mathlib.Nat.{div-eq-of-lt, mod-eq-of-lt}
+use native.Mathlib.Nat.{suc-mul, mul-le-mul-right, div-add-mod'}
 use native.Mathlib.Omega.{arith}
 use native.Mathlib.Decide.{ℕ-discrete, decLe}
 use lib.Dec.{ltb}
 use lib.ListN.{length, take, drop, getD}
 use borrow.Author.Tests.{ltb-true, ltb-false, lt-ltb, leb-false, not-true}
-use Rattle.theory.specs.Tests.{_⊃_, least}
+use Rattle.theory.specs.Tests.{least}
 use Rattle.theory.proofs.Tests.{by-test, fails, Means, means-via, itself, and-means, imp-means, not-means, eqb-means}
-use Rattle.theory.proofs.Tests.{leb-means, every-means, every-fails, least-none, least-found}
+use Rattle.theory.proofs.Tests.{leb-means, imp-fails, every-means, every-fails, least-none, least-found}
 use Rattle.fields.specs.declared.Field.{Field}
 use Rattle.fields.specs.declared.Field.the-variants.{Number, Faulty}
 use Rattle.fields.specs.Fields.{Class, classOf, onClass, digitsFrom, zeroFrom, fieldFrom, fieldAt, good}
@@ -23,18 +22,7 @@ use Rattle.sheet.specs.Sheets.{lineLength, offset, Sheet, worth}
 use Rattle.numbers.specs.Numbers.{bit}
 use Rattle.sheet.specs.Questions.{isField, malformed, tooLarge, falls, wrong, firstWrong}
 use Rattle.sheet.specs.Claims.{GoodField, Malformed, TooLarge, Falls, LeastPlace}
-use Rattle.numbers.proofs.Numbers.{pow-some, line-below, place-below}
-
--- places counted through the lines, z to a line
-module _ (z : ℕ) (some : 1 ≤ z) where
-  pub count-below : (m i c : ℕ) → i < m → c < z → i * z + c < m * z
-  count-below m i c h g = omega (arith, suc-mul i z, mul-le-mul-right {m = suc i} {n = m} z h)
-
-  pub count-line : (i c : ℕ) → c < z → (i * z + c) / z ≡ i
-  count-line i c g = mul-add-div-right some i c ∙ rw (div-eq-of-lt g) (add-zero i)
-
-  pub count-place : (i c : ℕ) → c < z → (i * z + c) % z ≡ c
-  count-place i c g = mul-add-mod-self-right i z c ∙ mod-eq-of-lt g
+use Rattle.numbers.proofs.Numbers.{pow-some, line-below, place-below, count-below, count-line, count-place}
 
 -- a later place begins later
 pub offset-mono : (n i c j d : ℕ) → c < 2 ^ n → i * 2 ^ n + c ≤ j * 2 ^ n + d → d < 2 ^ n → offset n i c ≤ offset n j d
@@ -179,7 +167,3 @@ module _ (b : List ℕ) (w : Sheet) (i c : ℕ) where
       not-means (every-means (w .lots) 0
       (λ j r. imp-means (itself (bit j (suc c))) (leb-means (worth w i (suc c - 2 ^ j)) (worth w i (suc c))))) .1
       (λ all. let le = all j (omega arith) has in absurd (omega arith))))
-    where
-      imp-fails : (x y : Bool) → (x ⊃ y) ≡ false → (x ≡ true) × (y ≡ false)
-      imp-fails true y e = (refl, e)
-      imp-fails false y e = fails refl e

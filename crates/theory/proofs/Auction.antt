@@ -9,12 +9,12 @@ use mathlib.Core.List.{List}
 use Prim.Native.Nat.{ℕ, suc, _+_}
 use native.Mathlib.Omega.{arith}
 use Rattle.theory.specs.Lists.{_∈_, most}
-use Rattle.theory.specs.Tests.{Least}
 use Rattle.theory.specs.Markets.{Market, Table, Bidder, total, Equilibrium, Fits, only, asks}
 use Rattle.theory.specs.Auction.{Economy, Quote, fits, serves, closes, supplied, undersupplied, lowest, Numbered}
 use Rattle.theory.specs.Auction.{Ranked, Minimal, Truthful, Absent, own}
 use Rattle.theory.proofs.Tests.{Means, means-via, itself, eqb-means, leb-means, and-means, or-means, imp-means}
-use Rattle.theory.proofs.Tests.{not-means, every-means, some-means, by-test, fails, least-none, least-found}
+use Rattle.theory.proofs.Tests.{not-means, every-means, some-means, by-test, fails, Least, least-none}
+use Rattle.theory.proofs.Tests.{least-found}
 use Rattle.theory.proofs.Ascent.{asks-cover, asks-demand, served-equilibrium}
 use Rattle.theory.proofs.Rounds.{by-choice}
 

@@ -13,14 +13,14 @@ use lib.Dec.{leb}
 use borrow.Author.Tests.{eq-eqb, ne-eqb, not-false}
 use Rattle.theory.specs.Sums.{when, sum, Among}
 use Rattle.theory.specs.Lists.{_∈_, most, upTo}
-use Rattle.theory.specs.Tests.{_⊃_, every, some, Least}
+use Rattle.theory.specs.Tests.{_⊃_, every, some}
 use Rattle.theory.specs.Markets.{Market, Table, sumOf, total, only, asks, lower, without}
 use Rattle.theory.specs.Auction.{Economy, supplied, own, Auction, Ready, Proper, Ranked, Modest, chosen, round}
 use Rattle.theory.specs.Coalitions.{Part, Values, Roster, rosterOf, payoffOf, inside, covers}
 use Rattle.theory.specs.Coalitions.{gain, revenue, suppliedBy, lowestBy}
 use Rattle.theory.specs.Kept.{shared, around, Ranks}
 use Rattle.theory.proofs.Tests.{by-test, fails, Means, itself, and-means, not-means, imp-means, leb-means}
-use Rattle.theory.proofs.Tests.{every-means, every-fails, some-means, least-found}
+use Rattle.theory.proofs.Tests.{imp-fails, every-means, every-fails, some-means, Least, least-found}
 use Rattle.theory.proofs.Sums.{when-up, when-one, sum-mono, sum-same, sum-add, sum-but}
 use Rattle.theory.proofs.Lists.{most-upper, most-is, most-reached, upTo-in}
 use Rattle.theory.proofs.Ascent.{lower-exact}
@@ -65,14 +65,10 @@ module _ (R : Roster) (x : ℕ) where
       shared-less f =
           let (i, r, p) =
           every-fails (R .many) (R .low) (λ i. (present i && R .member x i) ⊃ R .member n i) f in
-          let (here, out) = lacking (present i && R .member x i) (R .member n i) p in
+          let (here, out) = imp-fails (present i && R .member x i) (R .member n i) p in
           let one : attending i ≡ 1 = rw here in
           let no : both i ≡ 0 = rw out in
           omega (arith, sum-but (R .many) (R .low) both attending i r (λ j q _. both-attend j q))
-        where
-          lacking : (a b : Bool) → (a ⊃ b) ≡ false → (a ≡ true) × (b ≡ false)
-          lacking true b p = (refl, p)
-          lacking false b p = fails refl p
 
     -- a set with all members present but i shares at most 1 less
     shared-but : (i : ℕ) → Bidding i →

@@ -1,16 +1,17 @@
 -- Laws of the greatest value (`most-upper`, `most-reached`, `most-is`), of kept members (`keep-in`, `keep-from`), of
--- the first that passes (`first-in`, `first-passes`, `first-before`), of ordered lists, of members and sums by their
--- places (`at-in`, `in-at`, `sum-list`), and of lists of values.
-use mathlib.Core.Path.{_≡_, refl, sym, ap, _∙_}
+-- the first that passes (`first-in`, `first-passes`, `first-before`, `first-such`), of the values of a list's members
+-- (`map-same`, `most-map`, `first-map`), of ordered lists, of members and sums by their places (`at-in`, `in-at`,
+-- `sum-list`), and of lists of values.
+use mathlib.Core.Path.{_≡_, refl, sym, ap, ap₂, _∙_}
 use mathlib.Core.Bool.{Bool, true}
-use mathlib.Core.List.{List, [], _∷_, _++_, List·Memᴰ·head as here, List·Memᴰ·tail as there, List·Memᴰ·not-nil}
+use mathlib.Core.List.{List, [], _∷_, _++_, map, List·Memᴰ·head as here, List·Memᴰ·tail as there, List·Memᴰ·not-nil}
 use mathlib.Core.List.{List·Memᴰ·cases-cons, List·Memᴰ·append-cases}
 use mathlib.Core.Logic.{_⊎_, inl, inr}
-use Prim.Native.Nat.{ℕ, zero, suc, _+_, _-_, _≤_, _<_}
+use Prim.Native.Nat.{ℕ, zero, suc, max, _+_, _-_, _≤_, _<_}
 use native.Mathlib.Omega.{arith}
 use native.Mathlib.Decide.{decLe, ℕ-discrete}
 use lib.ListN.{length, take, getD, replicate}
-use Rattle.theory.specs.Sums.{sum, Among}
+use Rattle.theory.specs.Sums.{pick, when, sum, Among}
 use Rattle.theory.specs.Lists.{_∈_, most, sumOver, keep, first, Ordered, tabulate, upTo}
 use Rattle.theory.proofs.Sums.{sum-same, sum-shift}
 use Rattle.theory.proofs.Tests.{by-test}
@@ -65,6 +66,19 @@ module _ {A : Type 0} where
       ])
       (λ e. let (n, p) = keep-from t l (rw e at m) in (there n, p))
 
+  -- the greatest of those that pass
+  pub most-when : (f : A → ℕ) (t : A → Bool) (l : List A) → most (λ a. when (t a) (f a)) l ≡ most f (keep t l)
+  most-when f t [] = refl
+  most-when f t (a ∷ l) = by-test (t a) (λ e. rw (e, most-when f t l)) (λ e. rw e (omega (arith, most-when f t l)))
+
+  -- one member more
+  pub kept-last : (t : A → Bool) (l : List A) (a : A) →
+      length (keep t (l ++ (a ∷ []))) ≡ pick (t a) (suc (length (keep t l))) (length (keep t l))
+  kept-last t [] a = by-test (t a) (λ e. rw e) (λ e. rw e)
+  kept-last t (x ∷ l) a =
+      by-test (t x) (λ e. rw (e, kept-last t l a) (by-test (t a) (λ f. rw f) (λ f. rw f)))
+      (λ e. rw e (kept-last t l a))
+
   pub first-same : (t u : A → Bool) (d : A) (l : List A) → ((a : A) → a ∈ l → t a ≡ u a) → first t d l ≡ first u d l
   first-same t u d [] h = refl
   first-same t u d (a ∷ l) h = rw (h a (here refl), first-same t u d l (λ b m. h b (there m)))
@@ -77,12 +91,34 @@ module _ {A : Type 0} where
   first-passes t d (here e) p = let q = rw e at p in rw q q
   first-passes t d (there {x = x} m) p = by-test (t x) (λ e. rw e e) (λ e. rw e (first-passes t d m p))
 
+  -- what holds of `d` and of each member holds of the first
+  pub first-such : (P : A → Type 0) (t : A → Bool) (d : A) (l : List A) → P d → ((a : A) → a ∈ l → P a) →
+      P (first t d l)
+  first-such P t d [] p h = p
+  first-such P t d (a ∷ l) p h =
+      by-test (t a) (λ e. rw e (h a (here refl))) (λ e. rw e (first-such P t d l p (λ b q. h b (there q))))
+
   -- in an ordered list, the first that passes comes before every other that does
   pub first-before : (t : A → Bool) (d : A) (R : A → A → Type 0) {a : A} {l : List A} →
       Ordered R l → a ∈ l → t a ≡ true → (a ≡ first t d l) ⊎ R (first t d l) a
   first-before t d R o (here e) p = rw (rw e at p) (inl e)
   first-before t d R {a} o (there {x = x} m) p =
       by-test (t x) (λ e. rw e (inr (o .0 a m))) (λ e. rw e (first-before t d R (o .1) m p))
+
+-- the values of a list's members
+module _ {A B : Type 0} where
+  pub map-same : {f g : A → B} (l : List A) → ((a : A) → a ∈ l → f a ≡ g a) → map f l ≡ map g l
+  map-same [] h = refl
+  map-same (a ∷ l) h = rw (h a (here refl), map-same l (λ b q. h b (there q)))
+
+  pub most-map : (g : A → B) (f : B → ℕ) (l : List A) → most f (map g l) ≡ most (λ a. f (g a)) l
+  most-map g f [] = refl
+  most-map g f (a ∷ l) = ap (max (f (g a))) (most-map g f l)
+
+  pub first-map : (g : A → B) (t : B → Bool) (d : A) (l : List A) →
+      first t (g d) (map g l) ≡ g (first (λ a. t (g a)) d l)
+  first-map g t d [] = refl
+  first-map g t d (a ∷ l) = by-test (t (g a)) (λ e. rw e refl) (λ e. rw e (first-map g t d l))
 
 pub ordered-append : {A : Type 0} (R : A → A → Type 0) (l k : List A) → Ordered R l → Ordered R k →
     ((a b : A) → a ∈ l → b ∈ k → R a b) → Ordered R (l ++ k)
@@ -121,6 +157,12 @@ pub zeros-at : (n k : ℕ) → _≡_ {A = ℕ} (getD (replicate n 0) k 0) 0
 zeros-at zero k = refl
 zeros-at (suc n) zero = refl
 zeros-at (suc n) (suc k) = zeros-at n k
+
+pub all-zero : (n : ℕ) (l : List ℕ) → length l ≡ n → ((x : ℕ) → x ∈ l → x ≡ 0) → l ≡ replicate n 0
+all-zero zero [] e h = refl
+all-zero zero (x ∷ l) e h = absurd (omega arith)
+all-zero (suc n) [] e h = absurd (omega arith)
+all-zero (suc n) (x ∷ l) e h = ap₂ (λ x l. x ∷ l) (h x (here refl)) (all-zero n l (omega arith) (λ y m. h y (there m)))
 
 pub tabulate-at : {A : Type 0} (k s : ℕ) (f : ℕ → A) (j : ℕ) (d : A) → j < k → getD (tabulate k s f) j d ≡ f (s + j)
 tabulate-at zero s f j d h = absurd (omega arith)
@@ -170,3 +212,7 @@ pub upTo-from : (k s : ℕ) {i : ℕ} → i ∈ upTo k s → Among k s i
 upTo-from zero s m = absurd (List·Memᴰ·not-nil m)
 upTo-from (suc k) s m =
     elim (List·Memᴰ·cases-cons m) [ inl e ↦ omega arith | inr n ↦ omega (arith, upTo-from k (suc s) n) ]
+
+pub first-ordered : (k s : ℕ) → Ordered _<_ (upTo k s)
+first-ordered zero s = tt
+first-ordered (suc k) s = (λ b h. omega (arith, upTo-from k (suc s) h), first-ordered k (suc s))

@@ -1,19 +1,23 @@
 -- Loops over a range: what a definition over it still has to do from k on. Offers one law for each way through a loop
 -- that looks for the first that passes (`least`), that tests all (`every`), that takes in one number after another
 -- (`most`, `sum`, `some`, `every`, and `sum` counting down), that fills a list place by place (`Filled`, `tabulate`),
--- and that goes over one place by place (`Revised`).
+-- and that goes over one place by place (`Revised`). Loops over a list: what is still to do from place k on, for the
+-- greatest value and the first that passes. A greater value put in its place is the greatest there (`put-rises`).
 use mathlib.Core.Path.{_≡_, refl, sym, ap, subst, _∙_}
 use mathlib.Core.Logic.{⊎-elim}
-use mathlib.Core.Bool.{Bool, true, false, _&&_, _||_}
-use mathlib.Core.List.{List}
+use mathlib.Core.Bool.{Bool, true, false, _&&_, _||_, and-assoc, or-assoc}
+use mathlib.Core.List.{List, _∷_}
 use Prim.Native.Nat.{ℕ, suc, max, _+_, _-_, _<_, _≤_}
 use native.Mathlib.Nat.{zero-add, eq-or-lt-of-le}
 use native.Mathlib.Numerals.{add-one}
 use native.Mathlib.Omega.{arith}
-use lib.ListN.{length, getD, set, length-set}
-use lib.Seq.{getD-set-same, getD-set-other, ext-getD}
-use Rattle.theory.specs.Sums.{pick, sum}
-use Rattle.theory.specs.Lists.{most, tabulate, upTo}
+use native.Mathlib.Decide.{ℕ-discrete}
+use lib.Dec.{eqb}
+use lib.ListN.{length, drop, getD, set, length-set, drop-of-length-le}
+use lib.Seq.{getD-set-same, getD-set-other, ext-getD, drop-cons}
+use borrow.Author.Tests.{eq-eqb, ne-eqb}
+use Rattle.theory.specs.Sums.{pick, when, sum}
+use Rattle.theory.specs.Lists.{most, first, tabulate, upTo}
 use Rattle.theory.specs.Tests.{every, some, least}
 use Rattle.theory.proofs.Lists.{tabulate-at, tabulate-length}
 
@@ -62,18 +66,10 @@ module _ (n k : ℕ) where
     pub some-more : (t : ℕ → Bool) (x y T : Bool) → (x || some t (upTo (n - k) k)) ≡ T → y ≡ (x || t k) →
         (y || some t (upTo (n - (k + 1)) (k + 1))) ≡ T
     some-more t x y T inv e = rw (add-one k, e) (or-assoc x (t k) (some t (upTo (n - suc k) (suc k))) ∙ rw next at inv)
-      where
-        or-assoc : (x y z : Bool) → ((x || y) || z) ≡ (x || (y || z))
-        or-assoc true y z = refl
-        or-assoc false y z = refl
 
     pub all-more : (t : ℕ → Bool) (x y T : Bool) → (x && every (n - k) k t) ≡ T → y ≡ (x && t k) →
         (y && every (n - (k + 1)) (k + 1) t) ≡ T
     all-more t x y T inv e = rw (add-one k, e) (and-assoc x (t k) (every (n - suc k) (suc k) t) ∙ rw next at inv)
-      where
-        and-assoc : (x y z : Bool) → ((x && y) && z) ≡ (x && (y && z))
-        and-assoc true y z = refl
-        and-assoc false y z = refl
 
   module _ (h : n ≤ k) where
     none : n - k ≡ 0
@@ -92,6 +88,32 @@ module _ (n k : ℕ) where
     pub all-done : (t : ℕ → Bool) (x T : Bool) → (x && every (n - k) k t) ≡ T → x ≡ T
     all-done t true T inv = rw none at inv
     all-done t false T inv = inv
+
+-- over a list
+module _ (l : List ℕ) (k : ℕ) where
+  module _ (h : k < length l) where
+    opened : drop k l ≡ getD l k 0 ∷ drop (k + 1) l
+    opened = rw (add-one k) (drop-cons l k 0 h)
+
+    -- what a loop has taken in is x, and with place k it is y
+    pub most-next : (f : ℕ → ℕ) (x y T : ℕ) → max x (most f (drop k l)) ≡ T → y ≡ max x (f (getD l k 0)) →
+        max y (most f (drop (k + 1) l)) ≡ T
+    most-next f x y T inv e = omega (arith, ap (most f) opened)
+
+    -- r is what the test answers at place k
+    module _ (t : ℕ → Bool) (d T : ℕ) (r : Bool) (e : r ≡ t (getD l k 0)) (inv : first t d (drop k l) ≡ T) where
+      pub first-next : r ≡ false → first t d (drop (k + 1) l) ≡ T
+      first-next h = rw (opened, sym e ∙ h) at inv
+
+      pub first-here : r ≡ true → getD l k 0 ≡ T
+      first-here h = rw (opened, sym e ∙ h) at inv
+
+  module _ (h : length l ≤ k) where
+    pub most-over : (f : ℕ → ℕ) (x T : ℕ) → max x (most f (drop k l)) ≡ T → x ≡ T
+    most-over f x T inv = omega (arith, ap (most f) (drop-of-length-le l {i = k} h))
+
+    pub first-over : (t : ℕ → Bool) (d T : ℕ) → first t d (drop k l) ≡ T → d ≡ T
+    first-over t d T inv = rw (drop-of-length-le l {i = k} h) at inv
 
 -- a sum over 1 to n, of which the numbers above k are taken in
 pub sum-down : (n k x : ℕ) (f : ℕ → ℕ) → 1 ≤ k → k ≤ n → x ≡ sum (n - k) (suc k) f →
@@ -165,3 +187,19 @@ module _ (P : ℕ → ℕ → Type 0) (n : ℕ) (old : List ℕ) (k : ℕ) (l : 
 
 pub filled-copy : (n k : ℕ) (l t : List ℕ) → n ≤ k → length l ≡ n → Filled (λ j. getD l j 0) n k t → t ≡ l
 filled-copy n k l t h e g = ext-getD 0 t l (g .long ∙ sym e) (λ j q. g .done j (omega (arith, g .long)))
+
+-- a value is put in its place if it is greater
+module _ (l : List ℕ) (k total n : ℕ) where
+  pub put-rises : k < length l → getD l k 0 < total → getD (set l k total) n 0 ≡ max (getD l n 0) (when (eqb k n) total)
+  put-rises h r =
+      elim (ℕ-discrete k n) [
+        | yes e ↦ rw (← e, eq-eqb k k refl, getD-set-same l k total 0 h) (omega arith)
+        | no e ↦ rw (ne-eqb k n e, getD-set-other l k n total 0 (λ q. e (sym q))) (omega arith)
+      ]
+
+  pub put-stays : total ≤ getD l k 0 → getD l n 0 ≡ max (getD l n 0) (when (eqb k n) total)
+  put-stays h =
+      elim (ℕ-discrete k n) [
+        | yes e ↦ rw (← e, eq-eqb k k refl) (omega arith)
+        | no e ↦ rw (ne-eqb k n e) (omega arith)
+      ]

@@ -1,8 +1,8 @@
--- Laws of rounds. Two processes in a relation make the same choices (`choices-same`, `choices-agree`).
--- Rounds that each take something from what is left end in time (`choices-settle`, `choices-few`), and what they take
--- and what is left make up what there was (`choices-sizes`).
+-- Laws of rounds. `after-one` has the last round apart. Two processes in a relation make the same choices
+-- (`choices-same`, `choices-agree`). Rounds that each take something from what is left end in time (`choices-settle`,
+-- `choices-few`), and what they take and what is left make up what there was (`choices-sizes`).
 use mathlib.Core.Path.{_≡_, refl, sym, ap, _∙_}
-use mathlib.Core.List.{List, _∷_}
+use mathlib.Core.List.{List, [], _∷_}
 use Prim.Native.Nat.{ℕ, zero, suc, _+_, _≤_, _<_}
 use native.Mathlib.Omega.{arith}
 use lib.ListN.{length, take, getD}
@@ -14,6 +14,13 @@ use Rattle.theory.specs.Rounds.{choices, after}
 pub by-choice : {P : Type 0} (n : ℕ) → (n ≡ 0 → P) → ((x : ℕ) → n ≡ suc x → P) → P
 by-choice zero h k = h refl
 by-choice (suc x) h k = k x refl
+
+-- the state after one choice more
+pub after-one : {S : Type 0} (step : ℕ → S → S) (σ : S) (l : List ℕ) (k : ℕ) → k < length l →
+    after step σ (take (suc k) l) ≡ step (getD l k 0) (after step σ (take k l))
+after-one step σ [] k h = absurd (omega arith)
+after-one step σ (x ∷ l) zero h = refl
+after-one step σ (x ∷ l) (suc k) h = after-one step (step x σ) l k (omega arith)
 
 -- two processes whose states stay in a relation that makes their choices equal
 module _

@@ -1,18 +1,19 @@
 -- What passed and failed tests say, and the other way round: `Means`, with a law for each way to make a test.
--- `least-none` and `least-found` say what `least` answers; `by-test` is a proof by cases of a test.
+-- `least-none` and `least-found` say what `least` answers; `by-test` is a proof by cases of a test. Two tests of a range
+-- are one (`every-both`), and `some-last` has a list's last member apart.
 use mathlib.Core.Path.{_≡_, refl, sym, subst, _∙_}
 use mathlib.Core.Logic.{_↔_, _⊎_, inl, inr}
-use mathlib.Core.Bool.{Bool, true, false, not, _&&_, _||_, true≢false}
-use mathlib.Core.List.{List, [], _∷_, map, List·Memᴰ·head as here, List·Memᴰ·tail as there, List·Memᴰ·not-nil}
+use mathlib.Core.Bool.{Bool, true, false, not, _&&_, _||_, true≢false, and-false}
+use mathlib.Core.List.{List, [], _∷_, _++_, map, List·Memᴰ·head as here, List·Memᴰ·tail as there, List·Memᴰ·not-nil}
 use mathlib.Core.List.{List·Memᴰ·cases-cons}
-use Prim.Native.Nat.{ℕ, zero, suc, _≤_}
+use Prim.Native.Nat.{ℕ, zero, suc, _≤_, _<_}
 use native.Mathlib.Omega.{arith}
 use native.Mathlib.Decide.{ℕ-discrete}
 use lib.Dec.{eqb, leb}
 use borrow.Author.Tests.{eqb-true, eq-eqb, leb-true, le-leb, not-true}
 use Rattle.theory.specs.Sums.{Among}
 use Rattle.theory.specs.Lists.{_∈_}
-use Rattle.theory.specs.Tests.{_⊃_, every, some, least, Least}
+use Rattle.theory.specs.Tests.{_⊃_, every, some, least}
 
 -- a proof by cases of a test, each with its equation
 pub by-test : {P : Type 0} (x : Bool) → (x ≡ true → P) → (x ≡ false → P) → P
@@ -63,6 +64,10 @@ pub imp-means : {x y : Bool} {P Q : Type 0} → Means x P → Means y Q → Mean
 imp-means {x} {y} h k =
     (λ e a. k .0 (rw (h .1 a) at e), λ f. by-test x (λ p. rw p (k .1 (f (h .0 p)))) (λ p. rw p))
 
+pub imp-fails : (x y : Bool) → (x ⊃ y) ≡ false → (x ≡ true) × (y ≡ false)
+imp-fails true y e = (refl, e)
+imp-fails false y e = fails refl e
+
 pub every-means : (k s : ℕ) {t : ℕ → Bool} {P : ℕ → Type 0} →
     ((i : ℕ) → Among k s i → Means (t i) (P i)) → Means (every k s t) ((i : ℕ) → Among k s i → P i)
 every-means zero s h = (λ e i r. absurd (omega arith), λ f. refl)
@@ -91,6 +96,15 @@ pub every-same : (k s : ℕ) (t u : ℕ → Bool) → ((i : ℕ) → Among k s i
 every-same zero s t u h = refl
 every-same (suc k) s t u h = rw (h s (omega arith), every-same k (suc s) t u (λ i r. h i (omega arith)))
 
+pub every-both : (k s : ℕ) (t u : ℕ → Bool) → (every k s t && every k s u) ≡ every k s (λ i. t i && u i)
+every-both zero s t u = refl
+every-both (suc k) s t u = rw (← every-both k (suc s) t u) (swap (t s) (u s) (every k (suc s) t) (every k (suc s) u))
+  where
+    swap : (a b c d : Bool) → ((a && c) && (b && d)) ≡ ((a && b) && (c && d))
+    swap true true c d = refl
+    swap true false c d = and-false c
+    swap false b c d = refl
+
 pub some-same : {A : Type 0} (t u : A → Bool) (l : List A) → ((a : A) → a ∈ l → t a ≡ u a) → some t l ≡ some u l
 some-same t u [] h = refl
 some-same t u (a ∷ l) h = rw (h a (here refl), some-same t u l (λ b m. h b (there m)))
@@ -98,6 +112,16 @@ some-same t u (a ∷ l) h = rw (h a (here refl), some-same t u l (λ b m. h b (t
 pub some-map : {A B : Type 0} (t : B → Bool) (f : A → B) (l : List A) → some t (map f l) ≡ some (λ a. t (f a)) l
 some-map t f [] = refl
 some-map t f (a ∷ l) = rw (some-map t f l)
+
+pub some-last : {A : Type 0} (t : A → Bool) (l : List A) (a : A) → some t (l ++ (a ∷ [])) ≡ (some t l || t a)
+some-last t [] a = by-test (t a) (λ e. rw e) (λ e. rw e)
+some-last t (x ∷ l) a = by-test (t x) (λ e. rw e) (λ e. rw e (some-last t l a))
+
+-- n is the least of the k numbers from s on that passes
+pub record Least (k s : ℕ) (t : ℕ → Bool) (n : ℕ) : Type 0 where
+  pub among : Among k s n
+  pub passes : t n ≡ true
+  pub before : (i : ℕ) → s ≤ i → i < n → t i ≡ false
 
 pub least-none : (k s : ℕ) (t : ℕ → Bool) → least k s t ≡ 0 → (i : ℕ) → Among k s i → t i ≡ false
 least-none zero s t h i r = absurd (omega arith)

@@ -1,10 +1,9 @@
 -- Tests of all numbers of a range and of some member of a list, and the least number of a range that passes.
--- Offers `_⊃_`, `every`, `some`, `least`, and the record `Least` that says what `least` finds.
-use mathlib.Core.Path.{_≡_}
+-- Offers `_⊃_`, `every`, `some` and `least`.
 use mathlib.Core.Bool.{Bool, true, false, not, _&&_, _||_}
 use mathlib.Core.List.{List, [], _∷_}
-use Prim.Native.Nat.{ℕ, zero, suc, _≤_, _<_}
-use Rattle.theory.specs.Sums.{pick, Among}
+use Prim.Native.Nat.{ℕ, zero, suc}
+use Rattle.theory.specs.Sums.{pick}
 
 -- x implies y
 infixr 25 _⊃_
@@ -24,9 +23,3 @@ some t (a ∷ l) = t a || some t l
 abbrev pub least : ℕ → ℕ → (ℕ → Bool) → ℕ
 least zero s t = 0
 least (suc k) s t = let r = least k (suc s) t in pick (t s) (suc s) r
-
--- n is that number
-pub record Least (k s : ℕ) (t : ℕ → Bool) (n : ℕ) : Type 0 where
-  pub among : Among k s n
-  pub passes : t n ≡ true
-  pub before : (i : ℕ) → s ≤ i → i < n → t i ≡ false

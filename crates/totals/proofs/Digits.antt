@@ -1,15 +1,14 @@
 -- One law for each way through a loop: over the bidders (`bidders-sum`; `each-total` where all have one bundle), over the buyers that own something, from the
 -- last down (`set-with`, `set-without`, `set-all`), over words into the values of sets (`values-rise`, `values-stay`),
 -- over economies (`raise-here`, `raise-not`), and over words into the greatest totals of all economies (`Reached`).
-use mathlib.Core.Path.{_≡_, refl, sym, ap, _∙_}
+use mathlib.Core.Path.{_≡_, refl, ap, _∙_}
 use mathlib.Core.Bool.{Bool, not}
 use mathlib.Core.List.{List}
 use Prim.Native.Nat.{ℕ, suc, max, _+_, _-_, _*_, _≤_, _<_}
-use native.Mathlib.Decide.{ℕ-discrete, decLe}
+use native.Mathlib.Decide.{decLe}
 use native.Mathlib.Omega.{arith}
 use lib.Dec.{eqb}
 use lib.ListN.{length, drop, getD, set}
-use lib.Seq.{getD-set-same, getD-set-other}
 use borrow.Author.Tests.{eq-eqb, ne-eqb, eqb-true, eqb-false}
 use Rattle.theory.specs.Sums.{when, sum}
 use Rattle.theory.specs.Lists.{most}
@@ -17,14 +16,13 @@ use Rattle.theory.specs.Coalitions.{holder}
 use Rattle.theory.specs.Tests.{every}
 use Rattle.theory.proofs.Sums.{sum-same}
 use Rattle.theory.proofs.Tests.{by-test, itself, every-means}
-use Rattle.theory.proofs.Loops.{Revised, revised-set, revised-skip}
+use Rattle.theory.proofs.Loops.{Revised, revised-set, revised-skip, most-next, most-over, put-rises, put-stays}
 use Rattle.numbers.specs.Numbers.{Is}
 use Rattle.owners.specs.Owners.{number}
 use Rattle.owners.specs.Prices.{bidders, entry}
 use Rattle.owners.specs.Singles.{AtMost}
 use Rattle.owners.proofs.Bits.{number-down}
 use Rattle.lists.specs.Words.{digit, wordMarket}
-use Rattle.lists.proofs.Loops.{most-next, most-over}
 use Rattle.totals.specs.Totals.{wordTotal, wordIn, wordTotalIn, wordHolders, wordTotalBy, limitBy}
 
 -- the bidders from `low` on
@@ -64,22 +62,6 @@ module _ (m w i n d : ℕ) (lo : 1 ≤ i) (hi : i ≤ m) (e : n ≡ number (m - 
 
 pub set-all : (m w i n : ℕ) → i ≡ 0 → n ≡ number (m - i) (suc i) (holder (wordMarket 1 m) w) → n ≡ wordHolders m w
 set-all m w i n z e = let f : m - i ≡ m = omega arith in e ∙ rw (f, z) refl
-
--- a value is put in its place if it is greater
-module _ (l : List ℕ) (k total n : ℕ) where
-  put-rises : k < length l → getD l k 0 < total → getD (set l k total) n 0 ≡ max (getD l n 0) (when (eqb k n) total)
-  put-rises h r =
-      elim (ℕ-discrete k n) [
-        | yes e ↦ rw (← e, eq-eqb k k refl, getD-set-same l k total 0 h) (omega arith)
-        | no e ↦ rw (ne-eqb k n e, getD-set-other l k n total 0 (λ q. e (sym q))) (omega arith)
-      ]
-
-  put-stays : total ≤ getD l k 0 → getD l n 0 ≡ max (getD l n 0) (when (eqb k n) total)
-  put-stays h =
-      elim (ℕ-discrete k n) [
-        | yes e ↦ rw (← e, eq-eqb k k refl) (omega arith)
-        | no e ↦ rw (ne-eqb k n e) (omega arith)
-      ]
 
 -- one word taken into the values: its holders' number is `at`, and its total `total`
 module _ (low m : ℕ) (ws l vs : List ℕ) (k at total n T : ℕ) (h : k < length l)

@@ -3,33 +3,30 @@
 -- (`owners-found`, `bundle-found`), and the values of sets (`value-found`).
 use mathlib.Core.Path.{_≡_, refl, ap, ap₂, _∙_}
 use mathlib.Core.Bool.{Bool, not, _||_}
-use mathlib.Core.List.{List, [], _∷_}
+use mathlib.Core.List.{List, []}
 use Prim.Native.Nat.{ℕ, zero, suc, _-_, _≤_}
 use native.Mathlib.Omega.{arith}
 use lib.Dec.{eqb, eqb·suc-zero}
 use borrow.Author.Tests.{eqb-true, eqb-false}
 use Rattle.theory.specs.Sums.{when, Among}
-use Rattle.theory.specs.Lists.{_∈_, most, first, keep}
+use Rattle.theory.specs.Lists.{_∈_, most, first}
 use Rattle.theory.specs.Markets.{total}
 use Rattle.theory.specs.Coalitions.{holder}
 use Rattle.theory.proofs.Sums.{sum-same}
 use Rattle.theory.proofs.Tests.{by-test}
+use Rattle.theory.proofs.Lists.{first-such, most-when}
 use Rattle.owners.specs.Owners.{bundleFrom, lacks, number}
 use Rattle.owners.specs.Prices.{entry}
+use Rattle.owners.proofs.Bits.{number-same}
 use Rattle.offers.specs.Offers.{Offer, market, Bids, priceAt, economy, revenue}
 use Rattle.offers.specs.Rounds.{roundLimit}
 use Rattle.offers.specs.Places.{four}
 use Rattle.demand.proofs.Demands.{entry-is}
 use Rattle.lists.specs.Words.{digit, ownersOf, wordOf, wordsOf, Packed}
 use Rattle.lists.proofs.Words.{none-packs, word-bundle}
-use Rattle.lists.proofs.Loops.{most-words, first-words, first-owners, first-such}
+use Rattle.lists.proofs.Loops.{most-words, first-words, first-owners}
 use Rattle.lists.proofs.Packed.{held, in-word}
 use Rattle.totals.specs.Totals.{wordTotal, wordTotalIn, wordHolders, wordTotalBy, limitBy}
-
--- the greatest of those that pass
-most-when : {A : Type 0} (f : A → ℕ) (t : A → Bool) (l : List A) → most (λ a. when (t a) (f a)) l ≡ most f (keep t l)
-most-when f t [] = refl
-most-when f t (a ∷ l) = by-test (t a) (λ e. rw (e, most-when f t l)) (λ e. rw e (omega (arith, most-when f t l)))
 
 economy-most : (O : Offer) (f : List ℕ → ℕ) (e : ℕ) →
     most (λ a. when (eqb e 0 || lacks e a) (f a)) (O .lists) ≡ most f (economy O e)
@@ -37,11 +34,6 @@ economy-most O f zero = refl
 economy-most O f (suc e) =
     ap (λ t. most (λ a. when (t || lacks (suc e) a) (f a)) (O .lists)) (eqb·suc-zero e)
     ∙ most-when f (lacks (suc e)) (O .lists)
-
-number-same : (k s : ℕ) (t u : ℕ → Bool) → ((i : ℕ) → Among k s i → t i ≡ u i) → number k s t ≡ number k s u
-unfolding number
-number-same zero s t u h = refl
-number-same (suc k) s t u h = rw (h s (omega arith), number-same k (suc s) t u (λ i r. h i (omega arith)))
 
 module _ (O : Offer) (packed : Packed O) where
   -- a buyer is a bidder

@@ -4,22 +4,17 @@
 use mathlib.Core.Path.{_≡_, refl, sym, ap, ap₂, _∙_}
 use mathlib.Core.List.{List}
 use Prim.Native.Nat.{ℕ, suc, _+_, _-_, _*_, _/_, _%_, _^_, _≤_, _<_}
-use native.Mathlib.Nat.{pow-le-pow-right, div-add-mod'}
+use native.Mathlib.Nat.{div-add-mod'}
 use native.Mathlib.Numerals.{add-one}
 use native.Mathlib.Omega.{arith}
-use lib.Dec.{lit<}
 use lib.ListN.{length, take, drop, getD, length-drop}
 use lib.Seq.{length-take-le, getD-take, getD-drop, ext-getD}
 use Rattle.theory.proofs.Loops.{Filled}
-use Rattle.numbers.proofs.Numbers.{place-below}
-use Rattle.sheet.proofs.Lines.{count-line, count-place}
+use Rattle.numbers.proofs.Numbers.{place-below, count-line, count-place}
 use Rattle.generator.specs.declared.Generator.{Generator}
 use Rattle.generator.specs.Xorwow.{drawn, after, drawNumber}
 use Rattle.trial.specs.Worths.{rowWorth, raisedBy, mostFewer, rowUpTo, drawFor, trialAt}
 use Rattle.trial.proofs.Rows.{row-length, row-last, row-kept}
-
-pub size-some : (n : ℕ) → 1 ≤ n → 1 ≤ 2 ^ n - 1
-size-some n h = omega (arith, pow-le-pow-right {n = 2} (lit< tt) {i = 1} {j = n} h)
 
 module _ (N n top size : ℕ) (is : size ≡ 2 ^ n - 1) (some : 1 ≤ size) where
   -- place c of line i, from 0 on, in the list

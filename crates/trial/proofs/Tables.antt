@@ -13,9 +13,8 @@ use Rattle.theory.proofs.Lists.{most-upper, most-same, most-reached, tabulate-a
 use Rattle.theory.proofs.Lists.{tabulate-each, upTo-in}
 use Rattle.theory.proofs.Tests.{by-test}
 use Rattle.numbers.specs.Numbers.{bit}
-use Rattle.numbers.proofs.Numbers.{pow-some}
+use Rattle.numbers.proofs.Numbers.{pow-some, count-below}
 use Rattle.numbers.proofs.Subsets.{bit-le, bit-some}
-use Rattle.sheet.proofs.Lines.{count-below}
 use Rattle.writing.specs.Lists.{listed}
 use Rattle.trial.specs.Worths.{rowWorth, worthWithout, raisedBy, mostFewer, rowUpTo, drawFor, trialTable, trialAt}
 use Rattle.trial.specs.Worths.{trialList, mostWorths}

@@ -15,7 +15,7 @@ use Rattle.theory.specs.Sums.{pick}
 use Rattle.theory.specs.Lists.{over}
 use Rattle.theory.proofs.Tests.{by-test}
 use Rattle.fields.specs.Fields.{lineOf, numberAt}
-use Rattle.printing.proofs.Lines.{front-within}
+use Rattle.theory.proofs.Over.{front-within}
 use Rattle.fields.proofs.Lines.{line-length}
 use Rattle.sheet.specs.declared.Fault.{Fault}
 use Rattle.sheet.specs.Sheets.{lineLength}

@@ -20,7 +20,7 @@ use Rattle.fields.specs.declared.Field.{Field}
 use Rattle.fields.specs.declared.Field.the-variants.{Number, Faulty}
 use Rattle.fields.specs.Fields.{columns, fieldsOf, lineOf, fieldAt}
 use Rattle.fields.proofs.Canonical.{field-canonical}
-use Rattle.printing.proofs.Lines.{front-within}
+use Rattle.theory.proofs.Over.{front-within}
 use Rattle.fields.proofs.Lines.{fields-length, line-length}
 use Rattle.fields.proofs.Listed.{listed-read, fields-listed}
 use Rattle.sheet.specs.declared.Fault.{Fault}

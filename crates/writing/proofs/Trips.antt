@@ -12,13 +12,12 @@ use lib.ListN.{length, take, getD}
 use lib.Seq.{take-at, ext-getD}
 use Rattle.theory.specs.Lists.{tabulate, over}
 use Rattle.theory.proofs.Lists.{tabulate-at, tabulate-length, tabulate-same, tabulate-each}
-use Rattle.numbers.proofs.Numbers.{factor-some, line-below, place-below}
+use Rattle.numbers.proofs.Numbers.{factor-some, line-below, place-below, count-below, count-line, count-place}
 use Rattle.fields.specs.Fields.{linesOf}
 use Rattle.sheet.specs.Sheets.{Sheet, sheetOf, worth, lineWorths, bytesOf}
 use Rattle.sheet.specs.Questions.{fault, sheetFault}
 use Rattle.sheet.specs.Answers.{worthsBy, worthsRead}
 use Rattle.sheet.specs.Claims.{questions, Question}
-use Rattle.sheet.proofs.Lines.{count-below, count-line, count-place}
 use Rattle.sheet.proofs.Theorems.{place-zero, accepted-shape, accepted-grows}
 use Rattle.sheet.proofs.Accepting.{sheets-all, written-read as table-read, written-asked}
 use Rattle.sheet.proofs.Faults.{before-more, first-no}

@@ -1,6 +1,6 @@
 -- `closing::discounts` meets its contract. The invariant: the first k places are filled.
 use mathlib.Core.Path.{refl}
-use Prim.Native.Nat.{_-_, _≤_}
+use Prim.Native.Nat.{_-_}
 use native.Mathlib.Omega.{arith}
 use Rattle.theory.proofs.Loops.{Filled, filled-none, filled-more, filled-all}
 use Rattle.offers.specs.Places.{atPlace, perBuyer}
@@ -9,27 +9,23 @@ use Rattle.closing.proofs.discounts.Statement.{statement}
 use Rattle.closing.proofs.discounts.Tie as tie
 
 abbrev Inv-loop : tie.InvT-loop
-Inv-loop revenues buyers t₀ k₀ t k = (k ≤ 6) × Filled (atPlace buyers (discountBy revenues)) 6 k t
+Inv-loop revenues buyers t₀ k₀ t k = Filled (atPlace buyers (discountBy revenues)) 6 k t
 
 abbrev μ-loop : tie.MeasureT-loop
 μ-loop revenues buyers t₀ k₀ t k = 6 - k
 
 loop-holds : tie.Need-loop-holds Inv-loop μ-loop
-loop-holds c = (omega arith, filled-none _ 6 _ refl)
-
-array-write-t : tie.Need-array-write-t Inv-loop μ-loop
-array-write-t c = omega (arith, c .before .before .loop .inv .1 .long)
+loop-holds c = filled-none _ 6 _ refl
 
 loop-again : tie.Need-loop-again Inv-loop μ-loop
-loop-again c =
-    (omega arith, filled-more _ 6 _ _ _ (omega arith) (c .discount-at .ensures) (c .before .before .loop .inv .1))
+loop-again c = filled-more _ 6 _ _ _ (omega arith) (c .discount-at .ensures) (c .before .before .loop .inv)
 
 returns : tie.Need-returns Inv-loop μ-loop
 unfolding perBuyer
-returns c = filled-all _ 6 (c .before .loop .k) _ (omega arith) (c .before .loop .inv .1)
+returns c = filled-all _ 6 (c .before .loop .k) _ (omega arith) (c .before .loop .inv)
 
 pub discounts-spec : {M : Type 1} → statement M
 discounts-spec =
     tie.close
-    (tie.spec Inv-loop μ-loop loop-holds (λ c κs. omega arith) (λ c. omega arith) array-write-t (λ c. omega arith)
-    (λ c. omega arith) loop-again returns)
+    (tie.spec Inv-loop μ-loop loop-holds (λ c κs. omega arith) (λ c. omega arith)
+    (λ c. omega (arith, c .before .before .loop .inv .long)) (λ c. omega arith) (λ c. omega arith) loop-again returns)

@@ -5,8 +5,8 @@ use Prim.Native.Nat.{ℕ, _-_, _≤_}
 use native.Mathlib.Omega.{arith}
 use lib.ListN.{length, drop}
 use Rattle.theory.specs.Lists.{first}
+use Rattle.theory.proofs.Loops.{first-next, first-here, first-over}
 use Rattle.demand.specs.Demands.{quoted}
-use Rattle.lists.proofs.Loops.{first-next, first-here, first-over}
 use Rattle.closing.specs.Closings.{wordCloses}
 use Rattle.closing.proofs.first_closing.Statement.{statement}
 use Rattle.closing.proofs.first_closing.Tie as tie

@@ -2,9 +2,10 @@
 use mathlib.Core.Logic.{⊎-elim}
 use Prim.Native.Nat.{_-_, _<_}
 use native.Mathlib.Omega.{arith}
+use lib.Pow.{pow-mono}
 use Rattle.owners.specs.Prices.{demandSet}
 use Rattle.demand.specs.Demands.{quoted}
-use Rattle.demand.proofs.Loops.{power-small, Gathered, gathered-none, gathered-in, gathered-out, gathered-all}
+use Rattle.demand.proofs.Loops.{Gathered, gathered-none, gathered-in, gathered-out, gathered-all}
 use Rattle.demand.proofs.demand_set.Statement.{statement}
 use Rattle.demand.proofs.demand_set.Tie as tie
 
@@ -48,7 +49,7 @@ loop-again c =
 cast-result : tie.Need-cast-result Inv-loop μ-loop
 cast-result c =
     let l = c .before .loop in
-    omega (arith, l .inv .small, l .inv .within, power-small (l .s) (omega (arith, l .inv .within)))
+    omega (arith, l .inv .small, l .inv .within, pow-mono {i = l .s} {j = 16} (omega (arith, l .inv .within)))
 
 returns : tie.Need-returns Inv-loop μ-loop
 returns c =

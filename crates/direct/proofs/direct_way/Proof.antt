@@ -1,12 +1,9 @@
 -- `direct::direct_way` meets its contract.
-use mathlib.Core.Path.{_≡_, sym, ap, _∙_}
-use mathlib.Core.List.{List}
-use Prim.Native.Nat.{ℕ}
 use native.Mathlib.Omega.{arith}
-use lib.ListN.{length, take, replicate}
+use lib.ListN.{replicate}
 use borrow.Author.Needs.{needs}
 use Rattle.lists.specs.Words.{lotWords}
-use Rattle.lists.proofs.Walks.{over-covers, over-taken}
+use Rattle.theory.proofs.Over.{Front, over-front}
 use Rattle.direct.proofs.Answering.{direct-refused, direct-asks, direct-reckoned}
 use Rattle.direct.proofs.direct_way.Statement.{statement}
 use Rattle.direct.proofs.direct_way.Tie as tie
@@ -27,26 +24,16 @@ list-lots-requires c κs =
     (few, short, omega arith)
 
 -- the words stand at the front of the table
-module _ (c : tie.After-list-lots) where
-  abbrev all : List ℕ
-  all =
-      let read = c .before .before .before .before .before .before .before .read-worths .result in
-      lotWords (read .buyers) (read .lots)
-
-  taken : take (c .list-lots .result) (c .list-lots .last .1 .1 .0) ≡ all
-  taken =
-      over-taken all (replicate 2401 0) (c .list-lots .last .1 .1 .0) (c .list-lots .result) (c .list-lots .ensures .0)
-      (c .list-lots .ensures .1)
+words : (c : tie.After-list-lots) →
+    let read = c .before .before .before .before .before .before .before .read-worths .result in
+    Front (lotWords (read .buyers) (read .lots)) (c .list-lots .last .1 .1 .0) (c .list-lots .result)
+words c = over-front _ (replicate 2401 0) _ _ (c .list-lots .ensures)
 
 array-share-prefix-words : tie.Need-array-share-prefix-words
-array-share-prefix-words c =
-    let w = c .before in
-    over-covers (all w) (replicate 2401 0) (w .list-lots .last .1 .1 .0) (w .list-lots .result)
-    (w .list-lots .ensures .0) (w .list-lots .ensures .1)
+array-share-prefix-words c = words (c .before) .covers
 
 slice-aggregate-reckon : tie.Need-slice-aggregate-reckon
-slice-aggregate-reckon c =
-    let w = c .before .before in w .list-lots .ensures .0 ∙ sym (ap length (taken w))
+slice-aggregate-reckon c = words (c .before .before) .long
 
 reckon-requires : tie.Need-reckon-requires
 reckon-requires c κs =
@@ -62,7 +49,7 @@ returns-2 c =
     let e = w .before .before .before .before .before in
     let p = e .before .before in
     direct-reckoned (p .before .before .args .sheet .now) (p .read-worths .result) (p .read-worths .ensures)
-    (e .if1 .left) _ (taken w) (c .reckon .result) (c .reckon .ensures)
+    (e .if1 .left) _ (words w .taken) (c .reckon .result) (c .reckon .ensures)
 
 pub direct-way-spec : {M : Type 1} → statement M
 direct-way-spec =

@@ -3,8 +3,8 @@ use mathlib.Core.Path.{_≡_}
 use Prim.Native.Nat.{_-_, _*_, _^_, _≤_}
 use native.Mathlib.Omega.{arith}
 use lib.ListN.{take, drop}
-use Rattle.lists.specs.Words.{wordOf, wordFrom, shareIn}
-use Rattle.lists.proofs.Words.{word-first, word-next, word-done}
+use Rattle.lists.specs.Words.{wordOf, shareIn}
+use Rattle.lists.proofs.Words.{wordFrom, word-first, word-next, word-done}
 use Rattle.lists.proofs.word_of.Statement.{statement}
 use Rattle.lists.proofs.word_of.Tie as tie
 

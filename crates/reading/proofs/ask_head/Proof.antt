@@ -2,7 +2,7 @@
 use mathlib.Core.Bool.{true}
 use mathlib.Core.List.{List}
 use mathlib.Core.Path.{_≡_, sym, _∙_}
-use Prim.Native.Nat.{ℕ, _≤_}
+use Prim.Native.Nat.{ℕ, _*_, _≤_}
 use native.Mathlib.Omega.{arith}
 use lib.ListN.{length}
 use borrow.Author.Needs.{needs}
@@ -62,25 +62,19 @@ returns-4 c =
 line-length-requires : tie.Need-line-length-requires
 line-length-requires c κs = between-ends 4 _ (few-lots c) .1
 
-mul-if5 : tie.Need-mul-if5
-mul-if5 c =
-    let e = c .before .before .before .before in
+-- all lines together are short
+lines-short : (l : tie.After-line-length) →
+    head (l .before .before .before .before .before .before .before) .buyers * l .line-length .result ≤ 546
+lines-short l =
+    let e = l .before .before .before in
     let m = head (e .before .before .before .before) .buyers in
-    omega (
-      arith,
-      product-small m (c .before .line-length .result) 6 91 (between-ends 6 m (few-buyers e) .1)
-          (c .before .line-length .ensures .most),
-    )
+    product-small m (l .line-length .result) 6 91 (between-ends 6 m (few-buyers e) .1) (l .line-length .ensures .most)
+
+mul-if5 : tie.Need-mul-if5
+mul-if5 c = omega (arith, lines-short (c .before))
 
 add-if5 : tie.Need-add-if5
-add-if5 c =
-    let e = c .before .before .before .before in
-    let m = head (e .before .before .before .before) .buyers in
-    omega (
-      arith,
-      product-small m (c .before .line-length .result) 6 91 (between-ends 6 m (few-buyers e) .1)
-          (c .before .line-length .ensures .most),
-    )
+add-if5 c = omega (arith, lines-short (c .before))
 
 returns-5 : tie.Need-returns-5
 returns-5 c =

@@ -80,7 +80,7 @@ revenues-requires : tie.Need-revenues-requires Inv-loop μ-loop
 revenues-requires c κs =
     let n = c .before .before .before .before .before .before in
     let p = opening n .pre in
-    (p .few, p .judged, n .sets-of .ensures)
+    (p .few, omega (arith, p .judged), n .sets-of .ensures)
 
 loop-holds : tie.Need-loop-holds Inv-loop μ-loop
 loop-holds c =

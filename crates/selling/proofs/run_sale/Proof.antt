@@ -1,13 +1,12 @@
 -- `selling::run_sale` meets its contract.
-use mathlib.Core.Path.{_≡_, sym, ap, _∙_}
-use mathlib.Core.List.{List}
-use Prim.Native.Nat.{ℕ, _^_}
+use mathlib.Core.Path.{_≡_, ap, _∙_}
+use Prim.Native.Nat.{_^_}
 use native.Mathlib.Omega.{arith}
-use lib.ListN.{length, take, replicate}
+use lib.ListN.{replicate}
 use borrow.Author.Needs.{needs}
 use Rattle.numbers.proofs.Numbers.{pow-small, pow-some}
 use Rattle.lists.specs.Words.{lotWords}
-use Rattle.lists.proofs.Walks.{over-covers, over-taken}
+use Rattle.theory.proofs.Over.{Front, over-front}
 use Rattle.totals.specs.Totals.{limitBy}
 use Rattle.selling.specs.Selling.{Sells}
 use Rattle.selling.proofs.Selling.{sale-refused, asked, limit-is, record-short, sale-settled}
@@ -78,24 +77,16 @@ module _ (c : tie.After-list-lots) where
   abbrev summed : tie.After-limit-of
   summed = c .before .before .before
 
-  abbrev all : List ℕ
-  all =
-      let w = read (accepted summed) .read-worths .result in
-      lotWords (w .buyers) (w .lots)
-
-  taken : take (c .list-lots .result) (c .list-lots .last .1 .1 .0) ≡ all
-  taken =
-      over-taken all (replicate 2401 0) (c .list-lots .last .1 .1 .0) (c .list-lots .result) (c .list-lots .ensures .0)
-      (c .list-lots .ensures .1)
+  words :
+      let r = read (accepted summed) .read-worths .result in
+      Front (lotWords (r .buyers) (r .lots)) (c .list-lots .last .1 .1 .0) (c .list-lots .result)
+  words = over-front _ (replicate 2401 0) _ _ (c .list-lots .ensures)
 
 array-share-prefix-words : tie.Need-array-share-prefix-words
-array-share-prefix-words c =
-    let w = c .before in
-    over-covers (all w) (replicate 2401 0) (w .list-lots .last .1 .1 .0) (w .list-lots .result)
-    (w .list-lots .ensures .0) (w .list-lots .ensures .1)
+array-share-prefix-words c = words (c .before) .covers
 
 slice-aggregate-sell : tie.Need-slice-aggregate-sell
-slice-aggregate-sell c = let w = c .before .before in w .list-lots .ensures .0 ∙ sym (ap length (taken w))
+slice-aggregate-sell c = words (c .before .before) .long
 
 sell-requires : tie.Need-sell-requires
 sell-requires c κs =
@@ -105,7 +96,7 @@ sell-requires c κs =
     let p = read e in
     let z = lent e .args in (
       asks e,
-      taken w,
+      words w .taken,
       limit-is (z .sheet .now) (p .read-worths .result) (p .read-worths .ensures) (z .log .now) (e .if1 .left)
           (l .limit-of .result) (sum-is l),
       omega arith,

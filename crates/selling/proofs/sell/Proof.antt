@@ -51,8 +51,8 @@ close-sale-requires c κs =
       omega arith,
       z .pre .0 .few-buyers,
       omega (arith, p .power .ensures .is, pow-small (z .args .lots) (z .pre .0 .few-lots)),
-      omega (arith, z .pre .0 .worths),
-      omega (arith, long r),
+      omega (arith, z .pre .0 .worths, long r),
+      omega (arith, z .pre .0 .worths, long r),
     )
 
 returns : tie.Need-returns

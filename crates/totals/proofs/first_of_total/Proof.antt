@@ -7,7 +7,7 @@ use native.Mathlib.Omega.{arith}
 use lib.Dec.{eqb}
 use lib.ListN.{length, drop}
 use Rattle.theory.specs.Lists.{first}
-use Rattle.lists.proofs.Loops.{first-next, first-here, first-over}
+use Rattle.theory.proofs.Loops.{first-next, first-here, first-over}
 use Rattle.totals.specs.Totals.{wordTotal}
 use Rattle.totals.proofs.first_of_total.Statement.{statement}
 use Rattle.totals.proofs.first_of_total.Tie as tie

@@ -6,7 +6,7 @@ use Prim.Native.Nat.{ℕ, max, _-_, _≤_}
 use native.Mathlib.Omega.{arith}
 use lib.ListN.{length, drop, getD, length-set}
 use Rattle.theory.specs.Lists.{most}
-use Rattle.lists.proofs.Loops.{most-over}
+use Rattle.theory.proofs.Loops.{most-over}
 use Rattle.totals.specs.Totals.{wordTotalBy}
 use Rattle.totals.proofs.Digits.{values-rise, values-stay}
 use Rattle.totals.proofs.raise_values.Statement.{statement}

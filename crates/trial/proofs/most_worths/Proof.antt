@@ -7,17 +7,17 @@ use native.Mathlib.Nat.{div-add-mod'}
 use native.Mathlib.Omega.{arith}
 use lib.ListN.{length, take, drop, getD}
 use Rattle.theory.proofs.Loops.{Filled, filled-none, filled-more, filled-all}
-use Rattle.numbers.proofs.Numbers.{pow-some}
+use Rattle.numbers.proofs.Numbers.{pow-some, size-some}
 use Rattle.generator.specs.Xorwow.{drawn, after}
 use Rattle.trial.specs.Worths.{raisedBy, rowUpTo, drawFor, trialAt, mostWorths}
 use Rattle.trial.proofs.Rows.{row-length, row-small}
-use Rattle.trial.proofs.Filling.{size-some, filled-row, filled-next}
+use Rattle.trial.proofs.Filling.{filled-row, filled-next}
 use Rattle.trial.proofs.most_worths.Statement.{statement}
 use Rattle.trial.proofs.most_worths.Tie as tie
 
 abbrev Inv-loop : tie.InvT-loop
 Inv-loop number n top size g₀ t₀ k₀ g t k =
-    (k ≤ 90) × (g ≡ after (100 * number + k)) × Filled (trialAt number n top) 90 k t
+    (g ≡ after (100 * number + k)) × Filled (trialAt number n top) 90 k t
 
 abbrev μ-loop : tie.MeasureT-loop
 μ-loop number n top size g₀ t₀ k₀ g t k = 90 - k
@@ -31,7 +31,7 @@ after-draws-requires c κs = tt
 loop-holds : tie.Need-loop-holds Inv-loop μ-loop
 loop-holds c =
     let none : 100 * c .before .before .args .number ≡ 100 * c .before .before .args .number + 0 = omega arith in
-    (omega arith, c .after-draws .ensures ∙ ap after none, filled-none _ 90 _ refl)
+    (c .after-draws .ensures ∙ ap after none, filled-none _ 90 _ refl)
 
 draw-requires : tie.Need-draw-requires Inv-loop μ-loop
 draw-requires c κs = tt
@@ -69,7 +69,7 @@ module _ (p : tie.After-draw Inv-loop μ-loop) where
   t = p .before .before .loop .t
 
   row-is : take (k - (k - k % size)) (drop (k - k % size) t) ≡ rowUpTo n top (drawFor N n (k / size)) (k % size)
-  row-is = filled-row N n top size is some k t low (p .before .before .loop .inv .2)
+  row-is = filled-row N n top size is some k t low (p .before .before .loop .inv .1)
 
   inside : k % size ≤ k
   inside = omega (arith, div-add-mod' k size)
@@ -102,18 +102,17 @@ loop-again c =
     let next : 100 * N p + (k p + 1) ≡ suc (100 * N p + k p) = omega arith in
     let f = c .before .before .most-fewer in
     let r = c .before .raised-by in (
-      omega arith,
-      ap (λ d. d .next) (p .draw .ensures) ∙ ap (λ g. drawn g .next) (l .inv .1) ∙ sym (ap after next),
+      ap (λ d. d .next) (p .draw .ensures) ∙ ap (λ g. drawn g .next) (l .inv .0) ∙ sym (ap after next),
       filled-more _ 90 _ _ _ (low p)
           (r .ensures ∙ ap (λ d. raisedBy (top p) (f .result) (d .value)) (p .draw .ensures)
-          ∙ filled-next (N p) (n p) (top p) (size p) (is p) (some p) (k p) (t p) (low p) (l .inv .2) (l .g) (l .inv .1)
+          ∙ filled-next (N p) (n p) (top p) (size p) (is p) (some p) (k p) (t p) (low p) (l .inv .1) (l .g) (l .inv .0)
           (f .result) (f .ensures .is))
-          (l .inv .2),
+          (l .inv .1),
     )
 
 returns : tie.Need-returns Inv-loop μ-loop
 unfolding mostWorths
-returns c = filled-all _ 90 _ _ (omega arith) (c .before .loop .inv .2)
+returns c = filled-all _ 90 _ _ (omega arith) (c .before .loop .inv .1)
 
 pub most-worths-spec : {M : Type 1} → statement M
 most-worths-spec =
