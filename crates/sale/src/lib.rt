@@ -6,6 +6,7 @@ ghost use Rattle.owners.specs.Singles.{AtMost};
 ghost use Rattle.sheet.specs.Questions.{fault};
 ghost use Rattle.offers.specs.Offers.{lotsAmong};
 ghost use Rattle.offers.specs.Rounds.{roundLimit};
+ghost use Rattle.offers.specs.House.{HouseSales};
 ghost use Rattle.sale.specs.Answers.{refusedDemand, refusedSale, OneAnswer, Sales};
 
 // A refusal, or a buyer's demand set and whether it is keen.
@@ -73,7 +74,8 @@ pub fn round_limit(worths: &[u16; 96], m: usize, n: usize) -> u32
     total
 }
 
-// Does nothing. Its contract has the theorems about sales, demand 2 among them, so that none can be dropped unseen.
+// Does nothing. Its contract has the theorems about sales, demand 2 among them, and the worked sales with a house, so
+// that none can be dropped unseen.
 pub fn sales_hold()
-    ensures { λ _. ⌜ Sales × OneAnswer ⌝ }
+    ensures { λ _. ⌜ Sales × OneAnswer × HouseSales ⌝ }
 {}
