@@ -1,7 +1,8 @@
--- The worked sales with a house are as stated (`house-sales`), by computing.
+-- Bidders have seats with a house too, and the worked sales are as stated (`house-sales`), by computing.
 use mathlib.Core.Path.{_≡_, refl, ap, _∙_}
 use Rattle.theory.specs.Lists.{tabulate}
 use Rattle.theory.specs.Rounds.{after}
+use Rattle.owners.proofs.Bits.{house-seated}
 use Rattle.offers.specs.Rounds.{raised, roundLimit, startPrices, setsFrom, pricesFrom, saleSets, lastPrices}
 use Rattle.offers.specs.Rounds.{ownersBy, discountFor, paymentFor, directOwners, directPayment}
 use Rattle.offers.specs.House.{Row, Sold, HouseSales, soldAbove, keptAt, soldAt, keptAbove, loneBuyer, twoLots}
@@ -37,6 +38,7 @@ unfolding
     directPayment
 house-sales =
     record {
+      seated = house-seated;
       sold-above = sold soldAbove refl refl refl refl refl refl refl refl;
       kept-at = sold keptAt refl refl refl refl refl refl refl refl;
       sold-at = sold soldAt refl refl refl refl refl refl refl refl;

@@ -1,5 +1,5 @@
--- Sales with a house, which bids its reserves as bidder 0, worked (`HouseSales`): question 9's sum, the rounds, the last
--- prices, owners, discounts and payments, and what the direct way answers.
+-- Sales with a house, which bids its reserves as bidder 0 (`HouseSales`): that every bidder has a seat, and worked sales,
+-- with question 9's sum, the rounds, the last prices, owners, discounts, payments, and what the direct way answers.
 use mathlib.Core.Path.{_≡_}
 use mathlib.Core.List.{List, [], _∷_, _++_}
 use Prim.Native.Nat.{ℕ, _-_, _^_, _≤_}
@@ -137,6 +137,8 @@ twoLots =
     }
 
 pub record HouseSales : Type 0 where
+  -- each bidder has a row and a bit of its own, the house the last of seven
+  pub seated : (m : ℕ) → m ≤ 6 → Seated (seats 0 m) (bidders 0 m) 0 7
   pub sold-above : Sold soldAbove
   pub kept-at : Sold keptAt
   pub sold-at : Sold soldAt
