@@ -52,16 +52,16 @@ after-long O (x ∷ l) ps e =
 
 prices-long : (O : Offer) (k : ℕ) → length (pricesAfter O k) ≡ 16 * seats O .rows
 unfolding pricesAfter startPrices
-prices-long O k = after-long O (take k (saleSets O)) (startPrices O) (length-replicate (16 * seats O .rows) 0)
+prices-long O k = after-long O (take k (saleSets O)) (startPrices O) (length-replicate {A = ℕ} (16 * seats O .rows) 0)
 
 pub last-long : (O : Offer) (f : ℕ) → length (pricesFrom O (startPrices O) f) ≡ 16 * seats O .rows
 unfolding raised startPrices setsFrom pricesFrom
 last-long O f =
-    after-long O (setsFrom O (startPrices O) f) (startPrices O) (length-replicate (16 * seats O .rows) 0)
+    after-long O (setsFrom O (startPrices O) f) (startPrices O) (length-replicate {A = ℕ} (16 * seats O .rows) 0)
 
 -- the empty set has number 0, and no other has
 member-none : (O : Offer) (i : ℕ) → member O 0 i ≡ false
-member-none O i = rw (zero-div (2 ^ seats O .seat i))
+member-none O i = rw (zero-div _)
 
 member-some : (O : Offer) (set i : ℕ) → member O set i ≡ true → 0 < set
 member-some O zero i e = fails e (member-none O i)
@@ -212,7 +212,7 @@ module _ (O : Offer) (regular : Regular O) where
 
   worth-bound : (i s : ℕ) → worthOf O i s ≤ 65535
   worth-bound i s =
-      by-test (eqb s 0) (λ e. rw e (omega arith)) (λ e. rw e (regular .small (16 * S .seat i + s)))
+      by-test (eqb s 0) (λ e. rw e (omega arith)) (λ e. rw e (regular .small _))
 
   -- at a sale's own prices the empty set is never undersupplied, so some allocation fits
   module _ (k : ℕ) (l : k ≤ length (saleSets O)) where
