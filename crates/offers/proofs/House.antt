@@ -20,7 +20,8 @@ sold : (r : Row) →
     Sold r
 unfolding raised startPrices setsFrom pricesFrom saleSets lastPrices
 sold r limited rounds last owned discounted paid direct-owned direct-paid =
-    let is : lastPrices (r .offer) ≡ r .prices = ap (after (raised (r .offer)) (startPrices (r .offer))) rounds ∙ last in
+    let to = after (raised (r .offer)) (startPrices (r .offer)) in
+    let is : lastPrices (r .offer) ≡ r .prices = ap to rounds ∙ last in
     record {
       limited = limited;
       rounds = rounds;

@@ -1,5 +1,6 @@
--- Sales with a house, which bids its reserves as bidder 0 (`HouseSales`): that every bidder has a seat, and worked sales,
--- with question 9's sum, the rounds, the last prices, owners, discounts, payments, and what the direct way answers.
+-- Sales with a house, which bids its reserves as bidder 0 (`HouseSales`): that every bidder has a seat, and worked
+-- sales, with question 9's sum, the rounds, the last prices, owners, discounts, payments, and what the direct way
+-- answers.
 use mathlib.Core.Path.{_≡_}
 use mathlib.Core.List.{List, [], _∷_, _++_}
 use Prim.Native.Nat.{ℕ, _-_, _^_, _≤_}
@@ -11,16 +12,13 @@ use Rattle.offers.specs.Offers.{Offer}
 use Rattle.offers.specs.Rounds.{roundLimit, saleSets, lastPrices, ownersBy, discountFor, paymentFor}
 use Rattle.offers.specs.Rounds.{directOwners, directPayment}
 
--- a table of seven rows of sixteen, from the buyers' rows and the house's; a row is given from bundle 1 on
-abbrev pub sixteen : List ℕ → List ℕ
-sixteen l = 0 ∷ (l ++ replicate (15 - length l) 0)
-
-abbrev pub sixteens : List (List ℕ) → List ℕ
-sixteens [] = []
-sixteens (l ∷ ls) = sixteen l ++ sixteens ls
+-- a table of rows of sixteen, given from bundle 1 on; and one of seven rows, the buyers' and the house's
+abbrev pub sixteen : List (List ℕ) → List ℕ
+sixteen [] = []
+sixteen (l ∷ ls) = (0 ∷ (l ++ replicate (15 - length l) 0)) ++ sixteen ls
 
 abbrev pub sevenRows : List (List ℕ) → List ℕ → List ℕ
-sevenRows buyers house = sixteens buyers ++ (sixteens (replicate (6 - length buyers) []) ++ sixteen house)
+sevenRows buyers house = sixteen (buyers ++ (replicate (6 - length buyers) [] ++ (house ∷ [])))
 
 -- n lots among buyers and the house; `os` are the owners that a lot can have, in order
 abbrev pub withHouse : ℕ → List ℕ → List (List ℕ) → List ℕ → Offer

@@ -122,7 +122,9 @@ house-seated m few =
       seats = λ j p.
           by-test (eqb j 6)
           (λ e. rw e (omega arith, omega (arith, eqb-true j 6 e)))
-          (λ e. let l = ltb-true j m (rw e at p) in rw e (omega arith, rw (ne-eqb (suc j) 0 (λ z. omega arith)) (omega arith)));
+          (λ e.
+          let l = ltb-true j m (rw e at p) in
+          rw e (omega arith, rw (ne-eqb (suc j) 0 (λ z. omega arith)) (omega arith)));
     }
 
 -- a sum of powers of two is the number that has them as its bits
