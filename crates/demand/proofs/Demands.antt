@@ -1,19 +1,16 @@
 -- By a table's rows a bidder of an offer answers as the definitions say (`entry-is`, `wants-is`, `keen-is`,
 -- `demand-set-is`), and is keen if it does not demand the empty bundle (`keen-empty`).
-use mathlib.Core.Path.{_≡_, refl, ap, ap₂}
+use mathlib.Core.Path.{_≡_, ap, ap₂}
 use mathlib.Core.Bool.{not}
 use mathlib.Core.List.{List}
 use Prim.Native.Nat.{ℕ, _+_, _-_, _^_}
-use native.Mathlib.Omega.{arith}
 use lib.Dec.{eqb, ltb}
-use borrow.Author.Tests.{ne-eqb, eqb-false}
 use Rattle.theory.specs.Sums.{when}
 use Rattle.theory.specs.Lists.{upTo}
 use Rattle.theory.proofs.Sums.{sum-same}
-use Rattle.theory.proofs.Tests.{by-test}
 use Rattle.theory.proofs.Lists.{most-same}
 use Rattle.owners.specs.Prices.{entry, seats, payoff, best, demandSet}
-use Rattle.owners.proofs.Prices.{keen-wants}
+use Rattle.owners.proofs.Prices.{entry-seat, keen-wants}
 use Rattle.owners.proofs.Sales.{priced}
 use Rattle.offers.specs.Offers as offers
 use Rattle.offers.specs.Offers.{Offer, Bids, worthOf, priceAt}
@@ -22,9 +19,7 @@ use Rattle.demand.specs.Demands.{quoted}
 
 module _ (O : Offer) (i : ℕ) (r : Bids O i) where
   pub entry-is : (t : List ℕ) (s : ℕ) → entry t i s ≡ priceAt O t i s
-  entry-is t s =
-      by-test (eqb (O .low) 0) (λ e. rw e refl)
-      (λ e. rw (e, ne-eqb i 0 (λ z. eqb-false (O .low) 0 e (omega arith))) refl)
+  entry-is t s = entry-seat (O .low) (O .buyers) i (r .0) t s
 
   module _ (ps : List ℕ) where
     payoff-is : (s : ℕ) → payoff (seats 0 6) (entry (O .worths)) ps i s ≡ payoff (offers.seats O) (worthOf O) ps i s

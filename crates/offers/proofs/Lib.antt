@@ -9,3 +9,4 @@ pub mod Claimed
 pub mod Lots
 pub mod Places
 pub mod Outcomes
+pub mod House

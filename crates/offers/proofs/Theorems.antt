@@ -46,7 +46,7 @@ after-long O (x ∷ l) ps e =
 
 prices-long : (O : Offer) (k : ℕ) → length (pricesAfter O k) ≡ 16 * seats O .rows
 unfolding pricesAfter startPrices
-prices-long O k = after-long O (take k (saleSets O)) (startPrices O) (length-replicate (16 * seats O .rows) 0)
+prices-long O k = after-long O (take k (saleSets O)) (startPrices O) (length-replicate {A = ℕ} (16 * seats O .rows) 0)
 
 pub last-long : (O : Offer) (k : ℕ) (ps : List ℕ) (f : ℕ) → length ps ≡ 16 * seats O .rows →
     length (pricesFrom O k ps f) ≡ 16 * seats O .rows
@@ -55,7 +55,7 @@ last-long O k ps f = after-long O (setsFrom O k ps f) ps
 
 -- the empty set has number 0, and no other has
 member-none : (O : Offer) (i : ℕ) → member O 0 i ≡ false
-member-none O i = rw (zero-div (2 ^ seats O .seat i))
+member-none O i = rw (zero-div _)
 
 member-some : (O : Offer) (set i : ℕ) → member O set i ≡ true → 0 < set
 member-some O zero i e = fails e (member-none O i)
@@ -206,7 +206,7 @@ module _ (O : Offer) (regular : Regular O) where
 
   worth-bound : (i s : ℕ) → worthOf O i s ≤ 65535
   worth-bound i s =
-      by-test (eqb s 0) (λ e. rw e (omega arith)) (λ e. rw e (regular .small (16 * S .seat i + s)))
+      by-test (eqb s 0) (λ e. rw e (omega arith)) (λ e. rw e (regular .small _))
 
   -- at a sale's own prices the empty set is never undersupplied, so some allocation fits
   module _ (k : ℕ) (l : k ≤ length (saleSets O)) where

@@ -1,6 +1,7 @@
 -- Each set of bidders has a number, the sum of 2 ^ j over its bidders' seats j, and a proper subset has a lower one
 -- (`seats-ranked`). Offers the laws of `number` (`number-bit`, `number-below`, `number-same`, and `number-down` for
--- loops), of demand sets (`demand-bit`, `demand-below`), and that m buyers sit (`plain-seated`).
+-- loops), of demand sets (`demand-bit`, `demand-below`), and that m buyers sit (`plain-seated`), with a house too
+-- (`house-seated`).
 use mathlib.Core.Path.{_≡_, refl, sym, ap, _∙_}
 use mathlib.Core.Bool.{Bool, true, false, _&&_}
 use Prim.Native.Nat.{ℕ, zero, suc, _+_, _-_, _*_, _/_, _%_, _^_, _≤_, _<_}
@@ -8,7 +9,8 @@ use native.Mathlib.Nat.{zero-add, one-mul, pow-succ'}
 use native.Mathlib.Omega.{arith}
 use native.Mathlib.Decide.{ℕ-discrete}
 use lib.Pow.{pow-mono}
-use borrow.Author.Tests.{eq-eqb, ne-eqb, eqb-true, lt-ltb, ltb-true}
+use lib.Dec.{eqb}
+use borrow.Author.Tests.{eq-eqb, ne-eqb, eqb-true, eqb-false, lt-ltb, ltb-true}
 use Rattle.theory.specs.Sums.{when, sum, Among}
 use Rattle.theory.specs.Markets.{Market}
 use Rattle.theory.specs.Auction.{Quote, Numbered, Ranked}
@@ -16,7 +18,7 @@ use Rattle.theory.proofs.Tests.{by-test, fails, itself, and-means}
 use Rattle.numbers.proofs.Subsets.{bit-half}
 use Rattle.numbers.specs.Numbers.{bit}
 use Rattle.owners.specs.Owners.{number}
-use Rattle.owners.specs.Prices.{Seats, Seated, plain, seatMember, demandSet}
+use Rattle.owners.specs.Prices.{Seats, Seated, bidders, seats, plain, seatMember, demandSet}
 
 pub number-below : (k s : ℕ) (t : ℕ → Bool) → number k s t < 2 ^ k
 unfolding number
@@ -110,6 +112,25 @@ plain-seated m bits more few =
       enough = few;
       sits = λ i r. (omega arith, lt-ltb (i - 1) m (omega arith), omega arith);
       seats = λ j p. (omega (arith, ltb-true j m p), omega arith);
+    }
+
+-- with a house sets have seven bits, of which it has the last
+pub house-seated : (m : ℕ) → m ≤ 6 → Seated (seats 0 m) (bidders 0 m) 0 7
+house-seated m few =
+    record {
+      enough = omega arith;
+      sits = λ i r.
+          by-test (eqb i 0)
+          (λ e. rw e (omega arith, refl, omega (arith, eqb-true i 0 e)))
+          (λ e.
+          let some : 1 ≤ i = omega (arith, eqb-false i 0 e) in
+          rw (e, ne-eqb (i - 1) 6 (λ z. omega arith)) (omega arith, lt-ltb (i - 1) m (omega arith), omega arith));
+      seats = λ j p.
+          by-test (eqb j 6)
+          (λ e. rw e (omega arith, omega (arith, eqb-true j 6 e)))
+          (λ e.
+          let l = ltb-true j m (rw e at p) in
+          rw e (omega arith, rw (ne-eqb (suc j) 0 (λ z. omega arith)) (omega arith)));
     }
 
 -- a sum of powers of two is the number that has them as its bits

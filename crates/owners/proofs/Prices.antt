@@ -1,7 +1,7 @@
 -- A list of prices that `Holds` a sale's payoffs quotes as they do (`best-is`, `wants-same`, `keen-same`), and a round
 -- raises it as it lowers them (`raised-holds`); places that nobody reads (`unread`) keep what they hold
--- (`raised-unread`). At any `Fair` prices the answers are by payoffs (`quote-answers`). Assumes bidders with seats and
--- an empty bundle of no worth.
+-- (`raised-unread`). At any `Fair` prices the answers are by payoffs (`quote-answers`). Tables are read by the bidders'
+-- seats (`entry-seat`). Assumes bidders with seats and an empty bundle of no worth.
 use mathlib.Core.Path.{_≡_, refl, sym, ap, _∙_}
 use mathlib.Core.Logic.{_⊎_, inl, inr}
 use mathlib.Core.Bool.{Bool, true, false, not, _&&_}
@@ -12,7 +12,7 @@ use native.Mathlib.Omega.{arith}
 use native.Mathlib.Decide.{ℕ-discrete}
 use lib.Dec.{eqb, ltb, leb}
 use lib.ListN.{length, getD, getD-replicate}
-use borrow.Author.Tests.{le-leb, lt-leb, lt-ltb, le-ltb, ltb-true, ne-eqb}
+use borrow.Author.Tests.{le-leb, lt-leb, lt-ltb, le-ltb, ltb-true, ne-eqb, eqb-false}
 use Rattle.theory.specs.Sums.{when}
 use Rattle.theory.specs.Lists.{upTo}
 use Rattle.theory.specs.Markets.{Market, Table, Bidder, asks, lower}
@@ -22,7 +22,13 @@ use Rattle.theory.proofs.Tests.{by-test, same-test, not-means, means-via, eqb-m
 use Rattle.theory.proofs.Lists.{most-same, most-upper, most-reached, upTo-in, upTo-from, tabulate-at, tabulate-length}
 use Rattle.theory.proofs.Ascent.{asks-best, asks-raised}
 use Rattle.owners.specs.Prices.{Seats, Seated, plain, zeros, price, payoff, best, quote, read, raisedAt, raised}
-use Rattle.owners.specs.Prices.{Holds}
+use Rattle.owners.specs.Prices.{entry, seats, Holds}
+
+-- what stands in a table for a bidder stands in the row of its seat
+pub entry-seat : (low m i : ℕ) → low ≤ i → (t : List ℕ) (s : ℕ) → entry t i s ≡ price (seats low m) t i s
+entry-seat low m i r t s =
+    by-test (eqb low 0) (λ e. rw e refl)
+    (λ e. rw (e, ne-eqb i 0 (λ z. eqb-false low 0 e (omega arith))) refl)
 
 -- no payoff is cut off
 abbrev pub Fair : (S : Seats) {A : Type 0} → Market A → ℕ → Table → List ℕ → Type 0

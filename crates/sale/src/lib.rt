@@ -1,6 +1,7 @@
 // What sales and demand answers answer, and their refusals. The meaning is in specs/, the theorems in proofs/.
 ghost use mathlib.Core.Path.{_≡_};
 ghost use Rattle.sheet.specs.Questions.{fault};
+ghost use Rattle.offers.specs.House.{HouseSales};
 ghost use Rattle.sale.specs.Answers.{refusedDemand, refusedSale, OneAnswer, Sales};
 
 // A refusal, or a buyer's demand set and whether it is keen.
@@ -53,7 +54,8 @@ pub fn refused_sale(number: u8, place: u32) -> Sale
     }
 }
 
-// Does nothing. Its contract has the theorems about sales, demand 2 among them, so that none can be dropped unseen.
+// Does nothing. Its contract has the theorems about sales, demand 2 among them, and the worked sales with a house, so
+// that none can be dropped unseen.
 pub fn sales_hold()
-    ensures { λ _. ⌜ Sales × OneAnswer ⌝ }
+    ensures { λ _. ⌜ Sales × OneAnswer × HouseSales ⌝ }
 {}

@@ -1,16 +1,17 @@
 -- What stands in a table: for a buyer it is the price of the plain seats (`entry-plain`), and a bidder's row is one of
 -- the table's (`row-fits`), of which buyers have six (`buyers-fit`).
-use mathlib.Core.Path.{_≡_, refl}
+use mathlib.Core.Path.{_≡_}
 use mathlib.Core.List.{List}
 use Prim.Native.Nat.{ℕ, _+_, _*_, _≤_}
 use native.Mathlib.Omega.{arith}
 use lib.Dec.{eqb}
-use borrow.Author.Tests.{ne-eqb, eqb-true, eqb-false}
+use borrow.Author.Tests.{eqb-true, eqb-false}
 use Rattle.theory.proofs.Tests.{by-test}
 use Rattle.owners.specs.Prices.{rows, row, entry, plain, price}
+use Rattle.owners.proofs.Prices.{entry-seat}
 
 pub entry-plain : (t : List ℕ) (i s : ℕ) → 1 ≤ i → entry t i s ≡ price (plain 6) t i s
-entry-plain t i s h = rw (ne-eqb i 0 (λ z. omega arith)) refl
+entry-plain t i s h = entry-seat 1 6 i h t s
 
 -- bidders go from `low` on
 pub row-fits : (low i L : ℕ) → low ≤ i → i ≤ 6 → 16 * rows low ≤ L → 16 * row i + 16 ≤ L
