@@ -1,6 +1,6 @@
 -- What passed and failed tests say, and the other way round: `Means`, with a law for each way to make a test.
--- `least-none` and `least-found` say what `least` answers; `by-test` is a proof by cases of a test. Two tests of a range
--- are one (`every-both`), and `some-last` has a list's last member apart.
+-- `least-none` and `least-found` say what `least` answers (`Least`); `by-test` is a proof by cases of a test. Two tests
+-- of a range are one (`every-both`), and `some-last` has a list's last member apart.
 use mathlib.Core.Path.{_≡_, refl, sym, subst, _∙_}
 use mathlib.Core.Logic.{_↔_, _⊎_, inl, inr}
 use mathlib.Core.Bool.{Bool, true, false, not, _&&_, _||_, true≢false, and-false}

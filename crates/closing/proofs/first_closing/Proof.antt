@@ -1,7 +1,7 @@
 -- `closing::first_closing` meets its contract. The invariant: the first from place k on is the first of all.
 use mathlib.Core.Path.{_≡_, refl}
 use mathlib.Core.Bool.{Bool}
-use Prim.Native.Nat.{ℕ, _-_, _≤_}
+use Prim.Native.Nat.{ℕ, _-_}
 use native.Mathlib.Omega.{arith}
 use lib.ListN.{length, drop}
 use Rattle.theory.specs.Lists.{first}
@@ -14,13 +14,13 @@ use Rattle.closing.proofs.first_closing.Tie as tie
 abbrev Inv-loop : tie.InvT-loop
 Inv-loop list worths prices low buyers bundles top k₀ k =
     let passes = wordCloses low buyers (quoted bundles worths prices) prices top in
-    (k ≤ length list) × (first passes 0 (drop k list) ≡ first passes 0 list)
+    first passes 0 (drop k list) ≡ first passes 0 list
 
 abbrev μ-loop : tie.MeasureT-loop
 μ-loop list worths prices low buyers bundles top k₀ k = length list - k
 
 loop-holds : tie.Need-loop-holds Inv-loop μ-loop
-loop-holds c = (omega arith, refl)
+loop-holds c = refl
 
 -- the test of a word
 module _ (l : tie.At-loop Inv-loop μ-loop) where
@@ -36,21 +36,19 @@ returns : tie.Need-returns Inv-loop μ-loop
 returns c =
     let l = c .before .before .before .before in
     first-here (l .before .before .before .before .args .list .now) (l .loop .k) (omega arith) (passes l) 0 _ _
-    (c .before .closes .ensures) (l .loop .inv .1) (c .if1 .taken)
+    (c .before .closes .ensures) (l .loop .inv) (c .if1 .taken)
 
 loop-again : tie.Need-loop-again Inv-loop μ-loop
 loop-again c =
-    let l = c .before .before .before .before in (
-      omega arith,
-      first-next (l .before .before .before .before .args .list .now) (l .loop .k) (omega arith) (passes l) 0 _ _
-          (c .before .closes .ensures) (l .loop .inv .1) (c .if1 .left),
-    )
+    let l = c .before .before .before .before in
+    first-next (l .before .before .before .before .args .list .now) (l .loop .k) (omega arith) (passes l) 0 _ _
+    (c .before .closes .ensures) (l .loop .inv) (c .if1 .left)
 
 returns-2 : tie.Need-returns-2 Inv-loop μ-loop
 returns-2 c =
     let l = c .before in
     first-over (l .before .before .before .before .args .list .now) (l .loop .k) (omega arith) (passes l) 0 _
-    (l .loop .inv .1)
+    (l .loop .inv)
 
 pub first-closing-spec : {M : Type 1} → statement M
 first-closing-spec =

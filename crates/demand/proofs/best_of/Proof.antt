@@ -13,7 +13,7 @@ use Rattle.demand.proofs.best_of.Tie as tie
 
 abbrev Inv-loop : tie.InvT-loop
 Inv-loop worths prices bundles i top₀ s₀ top s =
-    (s ≤ bundles) × (top ≤ 131070)
+    (top ≤ 131070)
     × (max top (most (payoff (seats 0 6) (entry worths) prices i) (upTo (bundles - s) s))
     ≡ best (seats 0 6) bundles (entry worths) prices i)
 
@@ -21,7 +21,7 @@ abbrev μ-loop : tie.MeasureT-loop
 μ-loop worths prices bundles i top₀ s₀ top s = bundles - s
 
 loop-holds : tie.Need-loop-holds Inv-loop μ-loop
-loop-holds c = (omega arith, omega arith, rw sub-zero (omega arith))
+loop-holds c = (omega arith, rw sub-zero (omega arith))
 
 payoff-of-requires : tie.Need-payoff-of-requires Inv-loop μ-loop
 payoff-of-requires c κs = let p = c .before .before .before .before .pre in (p .0, omega arith)
@@ -34,10 +34,10 @@ loop-again c =
     let next =
     most-more (z .bundles) (l .loop .s) (c .before .before .loop-test .taken)
     (payoff (seats 0 6) (entry (z .worths .now)) (z .prices .now) (z .i)) (l .loop .top) (c .if1 .top) _
-    (l .loop .inv .2) in
+    (l .loop .inv .1) in
     ⊎-elim
-    (λ w. (omega arith, omega (arith, p .ensures .most), next (omega (arith, p .ensures .is))))
-    (λ w. (omega arith, omega arith, next (omega (arith, p .ensures .is))))
+    (λ w. (omega (arith, p .ensures .most), next (omega (arith, p .ensures .is))))
+    (λ w. (omega arith, next (omega (arith, p .ensures .is))))
     (c .if1 .came)
 
 returns : tie.Need-returns Inv-loop μ-loop
@@ -46,8 +46,8 @@ returns c =
     let z = l .before .before .before .args in
     record {
       is = most-done (z .bundles) (l .loop .s) (omega arith)
-          (payoff (seats 0 6) (entry (z .worths .now)) (z .prices .now) (z .i)) (l .loop .top) _ (l .loop .inv .2);
-      most = l .loop .inv .1;
+          (payoff (seats 0 6) (entry (z .worths .now)) (z .prices .now) (z .i)) (l .loop .top) _ (l .loop .inv .1);
+      most = l .loop .inv .0;
     }
 
 pub best-of-spec : {M : Type 1} → statement M

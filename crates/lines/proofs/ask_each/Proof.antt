@@ -19,8 +19,8 @@ asked q b ws m n j = wrong q b (asSheet m n ws) (j / 2 ^ n) (j % 2 ^ n)
 
 abbrev Inv-loop : tie.InvT-loop
 Inv-loop question sheet numbers m n size places k₀ k =
-    (k ≤ places) × (least (m * 2 ^ n - k) k (asked question sheet numbers m n)
-    ≡ least (m * 2 ^ n) 0 (asked question sheet numbers m n))
+    least (m * 2 ^ n - k) k (asked question sheet numbers m n)
+    ≡ least (m * 2 ^ n) 0 (asked question sheet numbers m n)
 
 abbrev μ-loop : tie.MeasureT-loop
 μ-loop question sheet numbers m n size places k₀ k = places - k
@@ -30,7 +30,7 @@ mul-places c =
     omega (arith, product-small (c .before .before .args .m) (c .bundles .result) 6 16 (omega arith) (omega arith))
 
 loop-holds : tie.Need-loop-holds Inv-loop μ-loop
-loop-holds c = (omega arith, rw sub-zero refl)
+loop-holds c = rw sub-zero refl
 
 -- in a turn
 module _ (i : tie.In-loop Inv-loop μ-loop) where
@@ -84,7 +84,7 @@ returns c =
     let w = asSheet (z .m) (z .n) (z .numbers .now) in
     each-found (z .question) (n i) (size i) (k i) (c .offset-of .result) _ (size-is i) (c .offset-of .ensures .is)
     (least-here (asked (z .question) (z .sheet .now) (z .numbers .now) (z .m) (z .n)) (m i * 2 ^ n i) (k i) _ (short i)
-    (i .before .loop .inv .1) (sym
+    (i .before .loop .inv) (sym
     (place-asked (z .question) (n i) (size i) (k i) (z .sheet .now) w _ (size-is i)
     (c .before .before .wrong-at .ensures)) ∙ c .before .if1 .taken))
 
@@ -95,13 +95,11 @@ loop-again : tie.Need-loop-again Inv-loop μ-loop
 loop-again c =
     let i = c .before .before in
     let z = i .before .before .before .before .args in
-    let w = asSheet (z .m) (z .n) (z .numbers .now) in (
-      omega arith,
-      least-passed (asked (z .question) (z .sheet .now) (z .numbers .now) (z .m) (z .n)) (m i * 2 ^ n i) (k i) _
-          (short i) (i .before .loop .inv .1)
-          (sym (place-asked (z .question) (n i) (size i) (k i) (z .sheet .now) w _ (size-is i)
-          (c .before .wrong-at .ensures)) ∙ c .if1 .left),
-    )
+    let w = asSheet (z .m) (z .n) (z .numbers .now) in
+    least-passed (asked (z .question) (z .sheet .now) (z .numbers .now) (z .m) (z .n)) (m i * 2 ^ n i) (k i) _ (short i)
+    (i .before .loop .inv)
+    (sym (place-asked (z .question) (n i) (size i) (k i) (z .sheet .now) w _ (size-is i)
+    (c .before .wrong-at .ensures)) ∙ c .if1 .left)
 
 returns-2 : tie.Need-returns-2 Inv-loop μ-loop
 unfolding firstWrong
@@ -113,7 +111,7 @@ returns-2 c =
       arith,
       c .loop-test .left,
       ap (λ y. z .m * y) (c .before .before .bundles .ensures .is),
-    )) (c .before .loop .inv .1))
+    )) (c .before .loop .inv))
 
 pub ask-each-spec : {M : Type 1} → statement M
 ask-each-spec =

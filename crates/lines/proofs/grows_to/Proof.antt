@@ -1,7 +1,7 @@
 -- `lines::grows_to` meets its contract. The invariant: the lots from j on are left to be tested.
 use mathlib.Core.Logic.{⊎-elim}
 use mathlib.Core.Path.{_≡_, refl, sym, _∙_}
-use Prim.Native.Nat.{_-_, _≤_}
+use Prim.Native.Nat.{_-_}
 use native.Mathlib.Nat.{sub-zero}
 use native.Mathlib.Omega.{arith}
 use Rattle.theory.specs.Tests.{every}
@@ -12,13 +12,13 @@ use Rattle.lines.proofs.grows_to.Statement.{statement}
 use Rattle.lines.proofs.grows_to.Tie as tie
 
 abbrev Inv-loop : tie.InvT-loop
-Inv-loop numbers n i s at w j₀ j = (j ≤ n) × (every (n - j) j (growsBy numbers i s) ≡ every n 0 (growsBy numbers i s))
+Inv-loop numbers n i s at w j₀ j = every (n - j) j (growsBy numbers i s) ≡ every n 0 (growsBy numbers i s)
 
 abbrev μ-loop : tie.MeasureT-loop
 μ-loop numbers n i s at w j₀ j = n - j
 
 loop-holds : tie.Need-loop-holds Inv-loop μ-loop
-loop-holds c = (omega arith, rw sub-zero refl)
+loop-holds c = rw sub-zero refl
 
 sub-part : tie.Need-sub-part Inv-loop μ-loop
 sub-part c =
@@ -35,7 +35,7 @@ returns c =
     let z = l .before .before .args in
     let j = l .loop .j in
     let there = sym (c .before .before .before .before .has .ensures) ∙ c .before .before .before .if1 .taken in
-    every-failed (growsBy (z .numbers .now) (z .i) (z .s)) (z .n) j _ (omega arith) (l .loop .inv .1)
+    every-failed (growsBy (z .numbers .now) (z .i) (z .s)) (z .n) j _ (omega arith) (l .loop .inv)
     (lot-less (z .numbers .now) (z .i) (z .s) j there (c .before .before .bundles .result)
     (c .before .before .bundles .ensures .is) (c .if2 .taken))
 
@@ -43,21 +43,19 @@ loop-again : tie.Need-loop-again Inv-loop μ-loop
 loop-again c =
     let l = c .before .before .before in
     let z = l .before .before .args in
-    let j = l .loop .j in (
-      omega arith,
-      every-passed (growsBy (z .numbers .now) (z .i) (z .s)) (z .n) j _ (omega arith) (l .loop .inv .1)
-          (⊎-elim
-          (λ w. lot-fine (z .numbers .now) (z .i) (z .s) j (sym (c .before .has .ensures) ∙ w .0 .taken) (w .1 .result)
-          (w .1 .ensures .is) (w .3 .left))
-          (λ w. lot-lacking (z .numbers .now) (z .i) (z .s) j (sym (c .before .has .ensures) ∙ w .left))
-          (c .if1 .came)),
-    )
+    let j = l .loop .j in
+    every-passed (growsBy (z .numbers .now) (z .i) (z .s)) (z .n) j _ (omega arith) (l .loop .inv)
+    (⊎-elim
+    (λ w. lot-fine (z .numbers .now) (z .i) (z .s) j (sym (c .before .has .ensures) ∙ w .0 .taken) (w .1 .result)
+    (w .1 .ensures .is) (w .3 .left))
+    (λ w. lot-lacking (z .numbers .now) (z .i) (z .s) j (sym (c .before .has .ensures) ∙ w .left))
+    (c .if1 .came))
 
 returns-2 : tie.Need-returns-2 Inv-loop μ-loop
 returns-2 c =
     let l = c .before in
     let z = l .before .before .args in
-    every-done (growsBy (z .numbers .now) (z .i) (z .s)) (z .n) (l .loop .j) _ (omega arith) (l .loop .inv .1)
+    every-done (growsBy (z .numbers .now) (z .i) (z .s)) (z .n) (l .loop .j) _ (omega arith) (l .loop .inv)
 
 pub grows-to-spec : {M : Type 1} → statement M
 grows-to-spec =

@@ -2,7 +2,7 @@
 use mathlib.Core.Path.{_≡_, refl}
 use mathlib.Core.Bool.{Bool}
 use mathlib.Core.List.{List}
-use Prim.Native.Nat.{ℕ, _-_, _≤_}
+use Prim.Native.Nat.{ℕ, _-_}
 use native.Mathlib.Omega.{arith}
 use lib.Dec.{eqb}
 use lib.ListN.{length, drop}
@@ -17,14 +17,13 @@ passes low m t n w = eqb (wordTotal low m t w) n
 
 abbrev Inv-loop : tie.InvT-loop
 Inv-loop list table low buyers total k₀ k =
-    (k ≤ length list)
-    × (first (passes low buyers table total) 0 (drop k list) ≡ first (passes low buyers table total) 0 list)
+    first (passes low buyers table total) 0 (drop k list) ≡ first (passes low buyers table total) 0 list
 
 abbrev μ-loop : tie.MeasureT-loop
 μ-loop list table low buyers total k₀ k = length list - k
 
 loop-holds : tie.Need-loop-holds Inv-loop μ-loop
-loop-holds c = (omega arith, refl)
+loop-holds c = refl
 
 -- the test of a word
 module _ (l : tie.At-loop Inv-loop μ-loop) where
@@ -35,22 +34,18 @@ returns : tie.Need-returns Inv-loop μ-loop
 returns c =
     let l = c .before .before .before .before in
     first-here (l .before .before .before .args .list .now) (l .loop .k) (omega arith) (test l) 0 _ _
-    (c .before .has-total .ensures)
-    (l .loop .inv .1) (c .if1 .taken)
+    (c .before .has-total .ensures) (l .loop .inv) (c .if1 .taken)
 
 loop-again : tie.Need-loop-again Inv-loop μ-loop
 loop-again c =
-    let l = c .before .before .before .before in (
-      omega arith,
-      first-next (l .before .before .before .args .list .now) (l .loop .k) (omega arith) (test l) 0 _ _
-          (c .before .has-total .ensures)
-          (l .loop .inv .1) (c .if1 .left),
-    )
+    let l = c .before .before .before .before in
+    first-next (l .before .before .before .args .list .now) (l .loop .k) (omega arith) (test l) 0 _ _
+    (c .before .has-total .ensures) (l .loop .inv) (c .if1 .left)
 
 returns-2 : tie.Need-returns-2 Inv-loop μ-loop
 returns-2 c =
     let l = c .before in
-    first-over (l .before .before .before .args .list .now) (l .loop .k) (omega arith) (test l) 0 _ (l .loop .inv .1)
+    first-over (l .before .before .before .args .list .now) (l .loop .k) (omega arith) (test l) 0 _ (l .loop .inv)
 
 pub first-of-total-spec : {M : Type 1} → statement M
 first-of-total-spec =

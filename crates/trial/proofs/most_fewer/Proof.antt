@@ -14,13 +14,13 @@ use Rattle.trial.proofs.most_fewer.Tie as tie
 abbrev Inv-loop : tie.InvT-loop
 Inv-loop row n s most₀ j₀ top j =
     let v = rowWorth row in
-    (j ≤ n) × (top ≤ 9999) × (max top (most (worthWithout v s) (upTo (n - j) j)) ≡ mostFewer n v s)
+    (top ≤ 9999) × (max top (most (worthWithout v s) (upTo (n - j) j)) ≡ mostFewer n v s)
 
 abbrev μ-loop : tie.MeasureT-loop
 μ-loop row n s most₀ j₀ top j = n - j
 
 loop-holds : tie.Need-loop-holds Inv-loop μ-loop
-loop-holds c = (omega arith, omega arith, rw sub-zero (omega arith))
+loop-holds c = (omega arith, rw sub-zero (omega arith))
 
 worth-without-requires : tie.Need-worth-without-requires Inv-loop μ-loop
 worth-without-requires c κs =
@@ -34,10 +34,10 @@ loop-again c =
     let f = worthWithout (rowWorth (z .row .now)) (z .s) in
     let next =
     most-more (z .n) (l .loop .j) (c .before .before .loop-test .taken) f (l .loop .most) (c .if1 .most) _
-    (l .loop .inv .2) in
+    (l .loop .inv .1) in
     ⊎-elim
-    (λ w. (omega arith, omega (arith, p .ensures .most), next (omega (arith, p .ensures .is))))
-    (λ w. (omega arith, omega arith, next (omega (arith, p .ensures .is))))
+    (λ w. (omega (arith, p .ensures .most), next (omega (arith, p .ensures .is))))
+    (λ w. (omega arith, next (omega (arith, p .ensures .is))))
     (c .if1 .came)
 
 returns : tie.Need-returns Inv-loop μ-loop
@@ -47,8 +47,8 @@ returns c =
     record {
       is =
           most-done (z .n) (l .loop .j) (omega arith) (worthWithout (rowWorth (z .row .now)) (z .s)) (l .loop .most) _
-          (l .loop .inv .2);
-      most = l .loop .inv .1;
+          (l .loop .inv .1);
+      most = l .loop .inv .0;
     }
 
 pub most-fewer-spec : {M : Type 1} → statement M
