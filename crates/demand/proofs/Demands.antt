@@ -9,8 +9,8 @@ use Rattle.theory.specs.Sums.{when}
 use Rattle.theory.specs.Lists.{upTo}
 use Rattle.theory.proofs.Sums.{sum-same}
 use Rattle.theory.proofs.Lists.{most-same}
-use Rattle.owners.specs.Prices.{entry, seats, payoff, best, demandSet}
-use Rattle.owners.proofs.Prices.{entry-seat, keen-wants}
+use Rattle.owners.specs.Prices.{entry, layout, payoff, best, demandSet}
+use Rattle.owners.proofs.Prices.{entry-row, keen-wants}
 use Rattle.owners.proofs.Sales.{priced}
 use Rattle.offers.specs.Offers as offers
 use Rattle.offers.specs.Offers.{Offer, Bids, worthOf, priceAt}
@@ -19,13 +19,13 @@ use Rattle.demand.specs.Demands.{quoted}
 
 module _ (O : Offer) (i : ℕ) (r : Bids O i) where
   pub entry-is : (t : List ℕ) (s : ℕ) → entry t i s ≡ priceAt O t i s
-  entry-is t s = entry-seat (O .low) (O .buyers) i (r .0) t s
+  entry-is t s = entry-row (O .low) (O .buyers) i (r .0) t s
 
   module _ (ps : List ℕ) where
-    payoff-is : (s : ℕ) → payoff (seats 0 6) (entry (O .worths)) ps i s ≡ payoff (offers.seats O) (worthOf O) ps i s
+    payoff-is : (s : ℕ) → payoff (layout 0 6) (entry (O .worths)) ps i s ≡ payoff (offers.layout O) (worthOf O) ps i s
     payoff-is s = ap₂ (λ x p. x + 65535 - p) (entry-is (O .worths) s) (entry-is ps s)
 
-    best-is : best (seats 0 6) (O .bundles) (entry (O .worths)) ps i ≡ offers.best O ps i
+    best-is : best (layout 0 6) (O .bundles) (entry (O .worths)) ps i ≡ offers.best O ps i
     best-is = most-same _ _ (upTo (O .bundles) 0) (λ s m. payoff-is s)
 
     pub wants-is : (s : ℕ) → quoted (O .bundles) (O .worths) ps .wants i s ≡ offers.quote O ps .wants i s
@@ -40,5 +40,5 @@ module _ (O : Offer) (i : ℕ) (r : Bids O i) where
     pub keen-empty : Regular O → offers.isKeen O ps i ≡ not (offers.quote O ps .wants i 0)
     keen-empty regular =
         keen-wants
-        (priced (offers.theAuction O) (offers.seats O) (O .bundles) (offers.bits O) (O .lists) (regular .hall)
+        (priced (offers.theAuction O) (offers.layout O) (O .bundles) (offers.bits O) (O .lists) (regular .setting)
         (worthOf O) (regular .worths)) ps i r

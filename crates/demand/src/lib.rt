@@ -4,7 +4,7 @@
 ghost use mathlib.Core.Path.{_≡_};
 ghost use Prim.Native.Nat.{_≤_, _<_};
 ghost use Rattle.numbers.specs.Numbers.{Is};
-ghost use Rattle.owners.specs.Prices.{entry, seats, payoff, best, demandSet};
+ghost use Rattle.owners.specs.Prices.{entry, layout, payoff, best, demandSet};
 ghost use Rattle.demand.specs.Demands.{quoted, Covers};
 use numbers::power;
 use tables::entry;
@@ -12,7 +12,7 @@ use tables::entry;
 // A bidder's payoff from a bundle, 65,535 higher (rule 4.1).
 pub fn payoff_of(worths: &[u16], prices: &[u16], i: usize, s: usize) -> u32
     requires { ⌜ Covers i (now worths) (now prices) × (s < 16) ⌝ }
-    ensures { λ r. ⌜ Is (payoff (seats 0 6) (entry (now (worths .entry))) (now (prices .entry)) i s) r 131070 ⌝ }
+    ensures { λ r. ⌜ Is (payoff (layout 0 6) (entry (now (worths .entry))) (now (prices .entry)) i s) r 131070 ⌝ }
 {
     entry(worths, i, s) + 65535 - entry(prices, i, s)
 }
@@ -20,7 +20,7 @@ pub fn payoff_of(worths: &[u16], prices: &[u16], i: usize, s: usize) -> u32
 // The greatest payoff.
 pub fn best_of(worths: &[u16], prices: &[u16], bundles: usize, i: usize) -> u32
     requires { ⌜ Covers i (now worths) (now prices) × (bundles ≤ 16) ⌝ }
-    ensures { λ r. ⌜ Is (best (seats 0 6) bundles (entry (now (worths .entry))) (now (prices .entry)) i) r 131070 ⌝ }
+    ensures { λ r. ⌜ Is (best (layout 0 6) bundles (entry (now (worths .entry))) (now (prices .entry)) i) r 131070 ⌝ }
 {
     let mut top: u32 = 0;
     let mut s: usize = 0;

@@ -13,7 +13,7 @@ use Rattle.numbers.specs.Numbers.{bit}
 use Rattle.owners.proofs.Bits.{demand-bit}
 use Rattle.owners.proofs.Prices.{Priced, small-fair, quote-answers, raised-price as price-raised}
 use Rattle.owners.proofs.Sales.{priced}
-use Rattle.offers.specs.Offers.{Offer, market, Bids, seats, member, bits, worthOf, priceAt, theAuction, best}
+use Rattle.offers.specs.Offers.{Offer, market, Bids, layout, member, bits, worthOf, priceAt, theAuction, best}
 use Rattle.offers.specs.Offers.{quote}
 use Rattle.offers.specs.Offers.{demandSet, isKeen}
 use Rattle.offers.specs.Rounds.{raised}
@@ -23,11 +23,11 @@ module _ (O : Offer) (regular : Regular O) (ps : List ℕ) (prices : Prices ps) 
   abbrev all : ℕ
   all = O .bundles
 
-  pub known : Priced (market O) (seats O) (bits O) all (theAuction O .top) (worthOf O)
-  known = priced (theAuction O) (seats O) all (bits O) (O .lists) (regular .hall) (worthOf O) (regular .worths)
+  pub known : Priced (market O) (layout O) (bits O) all (theAuction O .top) (worthOf O)
+  known = priced (theAuction O) (layout O) all (bits O) (O .lists) (regular .setting) (worthOf O) (regular .worths)
 
   pub answers : Answers (market O) (λ s. s < all) (worthOf O) (λ i. best O ps i - 65535) (quote O ps)
-  answers = quote-answers known ps (small-fair (market O) (seats O) all (worthOf O) ps prices)
+  answers = quote-answers known ps (small-fair (market O) (layout O) all (worthOf O) ps prices)
 
   pub wants-means : (i s : ℕ) → Bids O i → s < all → Means (quote O ps .wants i s) (Demanded O ps i s)
   wants-means i s r h =

@@ -14,9 +14,9 @@ use Rattle.theory.proofs.Tests.{not-means, eqb-means}
 use Rattle.theory.proofs.Lists.{most-upper, most-reached, keep-from}
 use Rattle.owners.specs.Owners.{lacks}
 use Rattle.owners.specs.Quick.{presentIn}
-use Rattle.owners.specs.Sales.{Worths, Hall}
+use Rattle.owners.specs.Sales.{Valuations, Setting}
 use Rattle.owners.proofs.Economies.{economies-all, whole-in, lacking-in}
-use Rattle.offers.specs.Offers.{Offer, market, Bids, seats, bits, worthOf, priceAt, without, economy, judgedIn}
+use Rattle.offers.specs.Offers.{Offer, market, Bids, layout, bits, worthOf, priceAt, without, economy, judgedIn}
 use Rattle.offers.specs.Offers.{theAuction, revenue}
 use Rattle.offers.specs.Claims.{economyAt, Regular}
 
@@ -74,23 +74,23 @@ module _ (O : Offer) where
 
 -- what is asked of the auction with all economies holds of it with fewer
 pub judged-regular : (O : Offer) → Regular O → (k : ℕ) → k ≤ O .buyers →
-    Hall (judgedIn O k) (seats O) (O .bundles) (bits O) (O .lists)
-    × Worths (judgedIn O k) (seats O) (O .bundles) (worthOf O)
+    Setting (judgedIn O k) (layout O) (O .bundles) (bits O) (O .lists)
+    × Valuations (judgedIn O k) (layout O) (O .bundles) (worthOf O)
 judged-regular O regular k few =
-    let hall = regular .hall in
+    let setting = regular .setting in
     let worths = regular .worths in
     let one : (e : Economy (List ℕ)) → e ∈ judgedIn O k .economies → e ∈ theAuction O .economies =
     economies-all k (O .lists) (λ e. e ∈ theAuction O .economies) (whole-in (O .buyers) (O .lists))
     (λ i r. lacking-in (O .buyers) (O .lists) i (omega arith)) in (
       record {
-        ready = record { sound = λ e m. hall .ready .sound e (one e m); numbered = hall .ready .numbered };
-        ranked = hall .ranked;
-        seated = hall .seated;
-        small = hall .small;
-        topped = hall .topped;
-        bundled = hall .bundled;
-        someone = hall .someone;
-        part = λ e m. hall .part e (one e m);
+        ready = record { sound = λ e m. setting .ready .sound e (one e m); numbered = setting .ready .numbered };
+        ranked = setting .ranked;
+        laid-out = setting .laid-out;
+        small = setting .small;
+        topped = setting .topped;
+        bundled = setting .bundled;
+        someone = setting .someone;
+        part = λ e m. setting .part e (one e m);
         everybody = whole-in k (O .lists);
       },
       record {

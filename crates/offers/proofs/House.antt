@@ -1,8 +1,8 @@
--- Bidders have seats with a house too, and the worked sales are as stated (`house-sales`), by computing.
+-- Bidders have rows with a house too, and the worked sales are as stated (`house-sales`), by computing.
 use mathlib.Core.Path.{_≡_, refl, ap, _∙_}
 use Rattle.theory.specs.Lists.{tabulate}
 use Rattle.theory.specs.Rounds.{after}
-use Rattle.owners.proofs.Bits.{house-seated}
+use Rattle.owners.proofs.Bits.{house-laid-out}
 use Rattle.offers.specs.Rounds.{raised, roundLimit, startPrices, setsFrom, pricesFrom, saleSets, lastPrices}
 use Rattle.offers.specs.Rounds.{ownersBy, discountFor, paymentFor, directOwners, directPayment}
 use Rattle.offers.specs.House.{Row, Sold, HouseSales, soldAbove, keptAt, soldAt, keptAbove, loneBuyer, twoLots}
@@ -39,7 +39,7 @@ unfolding
     directPayment
 house-sales =
     record {
-      seated = house-seated;
+      laid-out = house-laid-out;
       sold-above = sold soldAbove refl refl refl refl refl refl refl refl;
       kept-at = sold keptAt refl refl refl refl refl refl refl refl;
       sold-at = sold soldAt refl refl refl refl refl refl refl refl;

@@ -17,9 +17,9 @@ use Rattle.theory.specs.Kept.{around}
 use Rattle.theory.proofs.Sums.{sum-mono}
 use Rattle.theory.proofs.Coalitions.{exact-values}
 use Rattle.owners.specs.Prices.{zeros}
-use Rattle.owners.proofs.Sales.{begins, table-kept}
+use Rattle.owners.proofs.Sales.{begins, prices-kept}
 use Rattle.owners.proofs.Quick.{kept-revenue}
-use Rattle.offers.specs.Offers.{Offer, market, Bids, seats, bits, worthOf, priceAt, theAuction, revenue}
+use Rattle.offers.specs.Offers.{Offer, market, Bids, layout, bits, worthOf, priceAt, theAuction, revenue}
 use Rattle.offers.specs.Rounds.{raised, roundLimit, startPrices, setsFrom, saleSets, pricesAfter}
 use Rattle.offers.specs.Claims.{economyAt, suppliedAt, membersAt, setAt, FromRound, Regular}
 use Rattle.offers.proofs.Economies.{economy-in, economy-fewer, revenue-greatest}
@@ -29,13 +29,13 @@ use Rattle.offers.proofs.Theorems.{ascending, round-prices}
 -- the set of those that hold something in an allocation has a number, and so there are values of sets
 module _ (O : Offer) (regular : Regular O) where
   abbrev name : List ℕ → ℕ
-  name a = regular .hall .ready .numbered (holder (market O) a) .0
+  name a = regular .setting .ready .numbered (holder (market O) a) .0
 
   values : Values (theAuction O) (worthOf O) (O .lists)
       (λ n. most (λ a. when (eqb (name a) n) (total (market O) (worthOf O) a)) (O .lists))
   values =
       exact-values (theAuction O) (worthOf O) (regular .some 0 .1) name
-      (λ a k. let (n, l, same) = regular .hall .ready .numbered (holder (market O) a) in (l, same))
+      (λ a k. let (n, l, same) = regular .setting .ready .numbered (holder (market O) a) in (l, same))
 
 module _ (O : Offer) (regular : Regular O) (k : ℕ) (l : k < length (saleSets O)) where
   abbrev ps : List ℕ
@@ -58,12 +58,12 @@ module _ (O : Offer) (regular : Regular O) (k : ℕ) (l : k < length (saleSets O
   unfolding raised startPrices setsFrom saleSets pricesAfter
   raised-revenue e h =
       let X = theAuction O in
-      let S = seats O in
+      let L = layout O in
       let v = worthOf O in
-      let hall = regular .hall in
-      let kept = table-kept X S (O .bundles) (bits O) (O .lists) hall v (regular .worths) (zeros S) (start X v)
-      (begins X S (O .bundles) (bits O) (O .lists) hall v (regular .worths)) (roundLimit O) k in
-      kept-revenue X S (O .bundles) (bits O) (O .lists) hall v (regular .worths) _ (values O regular) ps _ kept
+      let setting = regular .setting in
+      let kept = prices-kept X L (O .bundles) (bits O) (O .lists) setting v (regular .worths) (zeros L) (start X v)
+      (begins X L (O .bundles) (bits O) (O .lists) setting v (regular .worths)) (roundLimit O) k in
+      kept-revenue X L (O .bundles) (bits O) (O .lists) setting v (regular .worths) _ (values O regular) ps _ kept
       (setAt O k) (ascending O regular .lowest-set k l) (economyAt O e) (economy-in O e h)
 
   price-rises : (i s : ℕ) → Bids O i → s < O .bundles → priceAt O ps i s ≤ priceAt O next i s
@@ -84,7 +84,7 @@ module _ (O : Offer) (regular : Regular O) (k : ℕ) (l : k < length (saleSets O
       let more : total (market O) (priceAt O ps) a ≤ total (market O) (priceAt O next) a =
       sum-mono (market O .many) (O .low) (λ i. priceAt O ps i (market O .holds a i))
       (λ i. priceAt O next i (market O .holds a i))
-      (λ i r. price-rises i (market O .holds a i) r (regular .hall .bundled a (economy-fewer O e a m) i r)) in
+      (λ i r. price-rises i (market O .holds a i) r (regular .setting .bundled a (economy-fewer O e a m) i r)) in
       omega (arith, is, more, most a m)
 
   pub from-round : FromRound O k

@@ -103,7 +103,7 @@ module _ (m n : ℕ) (ws : List ℕ) where
   pub lots-regular : m ≤ 6 → n ≤ 4 → AtMost 65535 ws → Topped m n ws → Regular O
   lots-regular few short small topped =
       record {
-        hall = singles m n few short (zeroFirst m) nobody-in;
+        setting = singles m n few short (zeroFirst m) nobody-in;
         worths = singles-worths m n few short (zeroFirst m) nobody-in (worthOf O) (λ i r. refl) topped;
         some = λ e. (replicate n 0, economy-some e);
         buyer = singles-buyer m n few short (zeroFirst m) nobody-in;

@@ -12,8 +12,8 @@ use Rattle.theory.specs.Lists.{_∈_, Ordered}
 use Rattle.theory.proofs.Lists.{most-subset}
 use Rattle.theory.proofs.Outcome as outcome
 use Rattle.theory.proofs.Settled as settled
-use Rattle.owners.proofs.Sales.{Third, sale-third, no-gain-direct}
-use Rattle.offers.specs.Offers.{Offer, market, Bids, seats, bits, worthOf, priceAt, without, theAuction}
+use Rattle.owners.proofs.Sales.{SameOutcome, same-outcome, no-gain-direct}
+use Rattle.offers.specs.Offers.{Offer, market, Bids, layout, bits, worthOf, priceAt, without, theAuction}
 use Rattle.offers.specs.Rounds.{roundLimit, startPrices, pricesFrom, lastPrices, ownersBy, discountFor}
 use Rattle.offers.specs.Rounds.{paymentFor}
 use Rattle.offers.specs.Rounds.{totalOf, greatestWithout, directOwners, directPayment}
@@ -48,10 +48,12 @@ module _ (O : Offer) (regular : Regular O) where
   direct-cheap i r = omega (arith, direct-pays i r, most-subset (totalOf O) (economy-fewer O i))
 
   -- at the last prices
-  third : Third (theAuction O) (seats O) (O .bundles) (O .lists) [] (O .buyers) (without O) (worthOf O) (lastPrices O)
+  third : SameOutcome (theAuction O) (layout O) (O .bundles) (O .lists) [] (O .buyers) (without O) (worthOf O)
+      (lastPrices O)
   unfolding startPrices pricesFrom lastPrices
   third =
-      sale-third (theAuction O) (seats O) (O .bundles) (bits O) (O .lists) (regular .hall) (worthOf O) (regular .worths)
+      same-outcome (theAuction O) (layout O) (O .bundles) (bits O) (O .lists) (regular .setting) (worthOf O)
+      (regular .worths)
       (roundLimit O) (omega arith) (O .buyers) (without O) (regular .buyer) []
 
   pub same-owners : ownersBy O (lastPrices O) ≡ directOwners O
@@ -90,6 +92,6 @@ pub no-gain : (O : Offer) (ws : List ℕ) → Regular O → Regular (reworth O w
 unfolding directOwners directPayment
 no-gain O ws regular regular′ zero r others = absurd (omega arith)
 no-gain O ws regular regular′ (suc k) r others =
-    no-gain-direct (theAuction O) (seats O) (O .bundles) (bits O) (O .lists) (regular .hall) (worthOf O)
+    no-gain-direct (theAuction O) (layout O) (O .bundles) (bits O) (O .lists) (regular .setting) (worthOf O)
     (worthOf (reworth O ws)) (regular .worths) (regular′ .worths) (suc k) (without O (suc k)) (regular .buyer (suc k) r)
     [] others

@@ -18,7 +18,7 @@ use Rattle.theory.proofs.Alike.{lowest-alike}
 use Rattle.owners.specs.Owners.{lacks}
 use Rattle.owners.specs.Prices.{payoff}
 use Rattle.owners.proofs.Economies.{economies-all}
-use Rattle.offers.specs.Offers.{Offer, market, Bids, seats, worthOf, priceAt, theAuction, economy, best, quote}
+use Rattle.offers.specs.Offers.{Offer, market, Bids, layout, worthOf, priceAt, theAuction, economy, best, quote}
 use Rattle.offers.specs.Offers.{demands, isKeen, revenue}
 use Rattle.offers.specs.Claims.{Agree, SameAnswers, Regular}
 use Rattle.offers.proofs.Economies.{economy-fewer}
@@ -31,14 +31,14 @@ lists-fewer O =
 
 module _ (O : Offer) (regular : Regular O) (ps qs : List ℕ) (agree : Agree O ps qs) where
   below : (a : List ℕ) → a ∈ O .lists → (i : ℕ) → Bids O i → market O .holds a i < O .bundles
-  below a m i r = regular .hall .bundled a m i r
+  below a m i r = regular .setting .bundled a m i r
 
   price-same : (i s : ℕ) → Bids O i → s < O .bundles → priceAt O ps i s ≡ priceAt O qs i s
   price-same i s r h = elim (ℕ-discrete s 0) [ yes e ↦ rw e | no e ↦ rw (ne-eqb s 0 e) (agree i s r (omega arith) h) ]
 
   best-same : (i : ℕ) → Bids O i → best O ps i ≡ best O qs i
   best-same i r =
-      most-same (payoff (seats O) (worthOf O) ps i) (payoff (seats O) (worthOf O) qs i) (upTo (O .bundles) 0)
+      most-same (payoff (layout O) (worthOf O) ps i) (payoff (layout O) (worthOf O) qs i) (upTo (O .bundles) 0)
       (λ s m. ap (λ p. worthOf O i s + 65535 - p) (price-same i s r (omega (arith, upTo-from (O .bundles) 0 m))))
 
   demands-same : (i s : ℕ) → Bids O i → s < O .bundles → demands O ps i s ≡ demands O qs i s

@@ -27,7 +27,8 @@ module _ (O : Offer) (regular : Regular O) (ps : List ℕ) (prices : Prices ps) 
   held-means : (e : ℕ) (a : List ℕ) → a ∈ economy O e → (i : ℕ) → Bids O i →
       Means (quote O ps .wants i (market O .holds a i)) (Demanded O ps i (market O .holds a i))
   held-means e a k i r =
-      wants-means O regular ps prices i (market O .holds a i) r (regular .hall .bundled a (economy-fewer O e a k) i r)
+      wants-means O regular ps prices i (market O .holds a i) r
+      (regular .setting .bundled a (economy-fewer O e a k) i r)
 
   pub fits-means : (e : ℕ) (a : List ℕ) → a ∈ economy O e → (fits O ps e a ≡ true) ↔
       (((c : List ℕ) → c ∈ economy O e → takings c ≤ takings a)

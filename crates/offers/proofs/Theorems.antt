@@ -23,13 +23,13 @@ use Rattle.theory.proofs.Payments.{discount-exact}
 use Rattle.theory.proofs.Auction.{supplied-means, undersupplied-means, undersupplied-keen, settled-iff}
 use Rattle.theory.proofs.Auction.{lowest-least as least-of, lowest-minimal as minimal-of}
 use Rattle.theory.proofs.Universal.{closing-competitive}
-use Rattle.owners.specs.Prices.{Seats, zeros, read}
+use Rattle.owners.specs.Prices.{Layout, zeros, read}
 use Rattle.owners.specs.Sales.{limit}
 use Rattle.owners.proofs.Prices.{small-fair, raised-long, quote-answers, best-is}
 use Rattle.owners.proofs.Economies.{whole-in}
-use Rattle.owners.proofs.Sales.{Second, priced, begins, settled-is, table-kept, ends-fair, sale-second}
+use Rattle.owners.proofs.Sales.{SaleRounds, priced, begins, settled-is, prices-kept, ends-fair, sale-rounds}
 use Rattle.numbers.proofs.Numbers.{pow-some}
-use Rattle.offers.specs.Offers.{Offer, market, Bids, seats, member, bits, worthOf, priceAt, theAuction, economy}
+use Rattle.offers.specs.Offers.{Offer, market, Bids, layout, member, bits, worthOf, priceAt, theAuction, economy}
 use Rattle.offers.specs.Offers.{best, quote, revenue, fits, undersupplied, lowest}
 use Rattle.offers.specs.Rounds.{raised, roundLimit, startPrices, setsFrom, pricesFrom, saleSets, pricesAfter}
 use Rattle.offers.specs.Rounds.{lastPrices, ownersBy, discountFor}
@@ -37,19 +37,19 @@ use Rattle.offers.specs.Claims.{Prices, Supports, UCE, setAt, Ascending,
 use Rattle.offers.proofs.Economies.{Numbers, economy-number, number-economy, economy-fewer}
 
 -- prices are as many in every round
-after-long : (O : Offer) (l ps : List ℕ) → length ps ≡ 16 * seats O .rows →
-    length (after (raised O) ps l) ≡ 16 * seats O .rows
+after-long : (O : Offer) (l ps : List ℕ) → length ps ≡ 16 * layout O .rows →
+    length (after (raised O) ps l) ≡ 16 * layout O .rows
 unfolding raised
 after-long O [] ps e = e
 after-long O (x ∷ l) ps e =
-    after-long O l (raised O x ps) (raised-long (seats O) (O .bundles) (worthOf O) (member O x) ps)
+    after-long O l (raised O x ps) (raised-long (layout O) (O .bundles) (worthOf O) (member O x) ps)
 
-prices-long : (O : Offer) (k : ℕ) → length (pricesAfter O k) ≡ 16 * seats O .rows
+prices-long : (O : Offer) (k : ℕ) → length (pricesAfter O k) ≡ 16 * layout O .rows
 unfolding pricesAfter startPrices
-prices-long O k = after-long O (take k (saleSets O)) (startPrices O) (length-replicate {A = ℕ} (16 * seats O .rows) 0)
+prices-long O k = after-long O (take k (saleSets O)) (startPrices O) (length-replicate {A = ℕ} (16 * layout O .rows) 0)
 
-pub last-long : (O : Offer) (k : ℕ) (ps : List ℕ) (f : ℕ) → length ps ≡ 16 * seats O .rows →
-    length (pricesFrom O k ps f) ≡ 16 * seats O .rows
+pub last-long : (O : Offer) (k : ℕ) (ps : List ℕ) (f : ℕ) → length ps ≡ 16 * layout O .rows →
+    length (pricesFrom O k ps f) ≡ 16 * layout O .rows
 unfolding raised setsFrom pricesFrom
 last-long O k ps f = after-long O (setsFrom O k ps f) ps
 
@@ -95,8 +95,8 @@ module _ (O : Offer) (regular : Regular O) where
   abbrev X : Auction (List ℕ)
   X = theAuction O
 
-  abbrev S : Seats
-  S = seats O
+  abbrev L : Layout
+  L = layout O
 
   abbrev all : ℕ
   all = O .bundles
@@ -104,9 +104,9 @@ module _ (O : Offer) (regular : Regular O) where
   -- at any ninety-six prices: no set, the empty one included, is undersupplied exactly if they are a UCE
   pub settled-iff-uce : (ps : List ℕ) → Prices ps → (lowest O ps ≡ 0) ↔ UCE O ps
   settled-iff-uce ps prices =
-      let fair = small-fair (market O) S all (worthOf O) ps prices in
+      let fair = small-fair (market O) L all (worthOf O) ps prices in
       let (to, from) =
-      settled-is X S all (bits O) (O .lists) (regular .hall) (worthOf O) (regular .worths) ps fair in
+      settled-is X L all (bits O) (O .lists) (regular .setting) (worthOf O) (regular .worths) ps fair in
       (λ e. uce-from O ps (to e), λ u. from (uce-to O ps u))
 
   -- the lowest undersupplied set is the least
@@ -124,7 +124,7 @@ module _ (O : Offer) (regular : Regular O) where
   pub lowest-minimal : (ps : List ℕ) (set : ℕ) → lowest O ps ≡ suc set →
       Minimal (market O) (quote O ps) (X .economies) (member O set)
   lowest-minimal ps set e =
-      minimal-of (market O) (quote O ps) (X .economies) (X .member) (X .sets) (regular .hall .ranked) set e
+      minimal-of (market O) (quote O ps) (X .economies) (X .member) (X .sets) (regular .setting .ranked) set e
 
   -- nothing is cut off in a discount, at any prices
   pub exact-discount : (ps : List ℕ) (i : ℕ) → Among (O .buyers) 1 i → discountFor O ps i + revenue O ps i
@@ -134,11 +134,11 @@ module _ (O : Offer) (regular : Regular O) where
   exact-discount ps (suc i) r = discount-exact (market O) (priceAt O ps) (economy-fewer O (suc i))
 
   -- demand 2
-  room : limit X S all (worthOf O) ≤ roundLimit O
+  room : limit X L all (worthOf O) ≤ roundLimit O
   room = omega arith
 
-  second : Second X S all (worthOf O) (zeros S) (start X (worthOf O)) (roundLimit O)
-  second = sale-second X S all (bits O) (O .lists) (regular .hall) (worthOf O) (regular .worths) (roundLimit O) room
+  second : SaleRounds X L all (worthOf O) (zeros L) (start X (worthOf O)) (roundLimit O)
+  second = sale-rounds X L all (bits O) (O .lists) (regular .setting) (worthOf O) (regular .worths) (roundLimit O) room
 
   settles : lowest O (lastPrices O) ≡ 0
   unfolding raised startPrices setsFrom pricesFrom saleSets lastPrices
@@ -149,12 +149,12 @@ module _ (O : Offer) (regular : Regular O) where
       (quote O (lastPrices O))
   unfolding startPrices pricesFrom lastPrices
   last-answers =
-      quote-answers (priced X S all (bits O) (O .lists) (regular .hall) (worthOf O) (regular .worths))
+      quote-answers (priced X L all (bits O) (O .lists) (regular .setting) (worthOf O) (regular .worths))
       (lastPrices O)
-      (ends-fair X S all (bits O) (O .lists) (regular .hall) (worthOf O) (regular .worths) (roundLimit O))
+      (ends-fair X L all (bits O) (O .lists) (regular .setting) (worthOf O) (regular .worths) (roundLimit O))
 
   bundled : Bundled (market O) (λ s. s < all) (O .lists)
-  bundled = regular .hall .bundled
+  bundled = regular .setting .bundled
 
   sold : (fits O (lastPrices O) 0 (ownersBy O (lastPrices O)) ≡ true)
       × Competitive (market O) (λ s. s < all) (worthOf O) (priceAt O (lastPrices O)) (whole (O .lists))
@@ -164,7 +164,7 @@ module _ (O : Offer) (regular : Regular O) where
       closing-competitive (market O) (λ s. s < all) (worthOf O) (λ i. best O (lastPrices O) i - 65535)
       (quote O (lastPrices O)) last-answers (O .lists) bundled
       (settled-iff (market O) (quote O (lastPrices O)) (X .economies) (X .member) (X .sets)
-      (regular .hall .ready .numbered) .0 settles
+      (regular .setting .ready .numbered) .0 settles
       (whole (O .lists)) (whole-in (O .buyers) (O .lists))) []
 
   sold-supports : Supports O (lastPrices O) 0 (ownersBy O (lastPrices O))
@@ -240,14 +240,14 @@ module _ (O : Offer) (regular : Regular O) where
     unfolding raised startPrices setsFrom saleSets pricesAfter
     own-prices i s r h =
         let v = worthOf O in
-        let hall′ = regular .hall in
+        let setting′ = regular .setting in
         let worths′ = regular .worths in
-        let kept = table-kept X S all (bits O) (O .lists) hall′ v worths′ (zeros S) (start X v)
-        (begins X S all (bits O) (O .lists) hall′ v worths′) (roundLimit O) k in
+        let kept = prices-kept X L all (bits O) (O .lists) setting′ v worths′ (zeros L) (start X v)
+        (begins X L all (bits O) (O .lists) setting′ v worths′) (roundLimit O) k in
         omega (
           arith,
           kept .prices i r s h,
-          best-is (priced X S all (bits O) (O .lists) hall′ v worths′)
+          best-is (priced X L all (bits O) (O .lists) setting′ v worths′)
               (pricesAfter O k) _ kept i r,
         )
 
@@ -255,26 +255,26 @@ module _ (O : Offer) (regular : Regular O) where
     unfolding raised startPrices setsFrom saleSets pricesAfter
     price-bound i s r h = second .bounded k i s r h
 
-    pub absent-zero : (j : ℕ) → j < 16 * S .rows → read S all j ≡ false → getD (pricesAfter O k) j 0 ≡ 0
+    pub absent-zero : (j : ℕ) → j < 16 * L .rows → read L all j ≡ false → getD (pricesAfter O k) j 0 ≡ 0
     unfolding raised startPrices setsFrom saleSets pricesAfter
-    absent-zero j h e = second .unread k j h e ∙ getD-replicate (16 * S .rows) j 0 0 h
+    absent-zero j h e = second .unread k j h e ∙ getD-replicate (16 * L .rows) j 0 0 h
 
     -- so all are prices that `AtPrices` is about
     pub round-prices : Prices (pricesAfter O k)
     round-prices j =
         let ps = pricesAfter O k in
         let row = j / 16 in
-        let i = S .sitter row in
+        let i = L .bidderAt row in
         let s = j - 16 * row in
-        elim (decLt j (16 * S .rows)) [
+        elim (decLt j (16 * L .rows)) [
           | no h ↦ rw (List·getD-eq-default ps 0 {n = j} (omega (arith, prices-long O k))) (omega arith)
           | yes h ↦
-              by-test (read S all j)
+              by-test (read L all j)
               (λ t.
-              let means = and-means (itself (S .taken row)) (and-means (leb-means 1 s) (leb-means (suc s) all)) in
+              let means = and-means (itself (L .taken row)) (and-means (leb-means 1 s) (leb-means (suc s) all)) in
               let (there, rest) = means .0 t in
-              let (r, sits) = regular .hall .seated .seats row there in
-              let at : 16 * S .seat i + s ≡ j = rw sits (omega arith) in
+              let (r, same-row) = regular .setting .laid-out .each-row row there in
+              let at : 16 * L .rowOf i + s ≡ j = rw same-row (omega arith) in
               let is : priceAt O ps i s ≡ getD ps j 0 =
               rw (ne-eqb s 0 (λ z. omega (arith, rest))) (ap (λ x. getD ps x 0) at) in
               omega (arith, is, price-bound i s r (rest .1), worth-bound i s))

@@ -10,14 +10,14 @@ use lib.ListN.{length, getD, replicate}
 use Rattle.theory.specs.Sums.{Among, when}
 use Rattle.theory.specs.Lists.{_∈_, Ordered, sumOver}
 use Rattle.theory.specs.Markets.{sumOf, total}
-use Rattle.theory.specs.Auction.{Economy, Minimal, Buyer, supplied, size}
+use Rattle.theory.specs.Auction.{Economy, Minimal, Marginal, supplied, size}
 use Rattle.numbers.specs.Numbers.{bit}
 use Rattle.owners.specs.Owners.{ComesBefore, lacks}
 use Rattle.owners.specs.Prices.{read}
 use Rattle.owners.specs.Quick.{presentIn}
-use Rattle.owners.specs.Sales.{Hall, Worths}
+use Rattle.owners.specs.Sales.{Setting, Valuations}
 use Rattle.owners.specs.Singles.{AtMost}
-use Rattle.offers.specs.Offers.{Offer, market, Bids, seats, member, bits, worthOf, priceAt, without, economy}
+use Rattle.offers.specs.Offers.{Offer, market, Bids, layout, member, bits, worthOf, priceAt, without, economy}
 use Rattle.offers.specs.Offers.{theAuction, best, quote, demandSet, isKeen, revenue, fits, undersupplied, lowest}
 use Rattle.offers.specs.Rounds.{raised, roundLimit, startPrices, saleSets, pricesAfter, lastPrices, ownersBy}
 use Rattle.offers.specs.Rounds.{discountFor}
@@ -30,7 +30,7 @@ module _ (O : Offer) where
   -- two price tables that agree for the bidders there are and the bundles there are, but for the empty one
   abbrev pub Agree : List ℕ → List ℕ → Type 0
   Agree ps qs = (i s : ℕ) → Bids O i → 1 ≤ s → s < O .bundles →
-      getD ps (16 * seats O .seat i + s) 0 ≡ getD qs (16 * seats O .seat i + s) 0
+      getD ps (16 * layout O .rowOf i + s) 0 ≡ getD qs (16 * layout O .rowOf i + s) 0
 
   -- everything that a sale looks at is then the same
   pub record SameAnswers (ps qs : List ℕ) : Type 0 where
@@ -136,7 +136,7 @@ module _ (O : Offer) where
     pub own-prices : (i s : ℕ) → Bids O i → s < O .bundles →
         priceAt O (pricesAfter O k) i s ≡ worthOf O i s - (best O (pricesAfter O k) i - 65535)
     pub price-bound : (i s : ℕ) → Bids O i → s < O .bundles → priceAt O (pricesAfter O k) i s ≤ worthOf O i s
-    pub absent-zero : (j : ℕ) → j < 16 * seats O .rows → read (seats O) (O .bundles) j ≡ false →
+    pub absent-zero : (j : ℕ) → j < 16 * layout O .rows → read (layout O) (O .bundles) j ≡ false →
         getD (pricesAfter O k) j 0 ≡ 0
 
   -- the recorded set of round k + 1
@@ -197,8 +197,8 @@ pub record Claimed (O : Offer) : Type 0 where
 -- what they are proved from, of an offer: its auction is one that the theory is about, each economy has an allocation,
 -- a buyer can be left out, and worths are no higher than prices can be
 pub record Regular (O : Offer) : Type 0 where
-  pub hall : Hall (theAuction O) (seats O) (O .bundles) (bits O) (O .lists)
-  pub worths : Worths (theAuction O) (seats O) (O .bundles) (worthOf O)
+  pub setting : Setting (theAuction O) (layout O) (O .bundles) (bits O) (O .lists)
+  pub worths : Valuations (theAuction O) (layout O) (O .bundles) (worthOf O)
   pub some : (e : ℕ) → (a : List ℕ) × (a ∈ economy O e)
-  pub buyer : (i : ℕ) → Among (O .buyers) 1 i → Buyer (theAuction O) (O .lists) i (without O i)
+  pub buyer : (i : ℕ) → Among (O .buyers) 1 i → Marginal (theAuction O) (O .lists) i (without O i)
   pub small : AtMost 65535 (O .worths)

@@ -1,4 +1,4 @@
--- Sales with a house, which bids its reserves as bidder 0 (`HouseSales`): that every bidder has a seat, and worked
+-- Sales with a house, which bids its reserves as bidder 0 (`HouseSales`): that every bidder has a row, and worked
 -- sales, with question 9's sum, the rounds, the last prices, owners, discounts, payments, and what the direct way
 -- answers.
 use mathlib.Core.Path.{_≡_}
@@ -7,7 +7,7 @@ use Prim.Native.Nat.{ℕ, _-_, _^_, _≤_}
 use lib.ListN.{length, replicate}
 use Rattle.theory.specs.Lists.{tabulate}
 use Rattle.owners.specs.Owners.{allocations, zeroFirst, single}
-use Rattle.owners.specs.Prices.{Seated, bidders, seats}
+use Rattle.owners.specs.Prices.{LaidOut, bidders, layout}
 use Rattle.offers.specs.Offers.{Offer}
 use Rattle.offers.specs.Rounds.{roundLimit, saleSets, lastPrices, ownersBy, discountFor, paymentFor}
 use Rattle.offers.specs.Rounds.{directOwners, directPayment}
@@ -136,7 +136,7 @@ twoLots =
 
 pub record HouseSales : Type 0 where
   -- each bidder has a row and a bit of its own, the house the last of seven
-  pub seated : (m : ℕ) → m ≤ 6 → Seated (seats 0 m) (bidders 0 m) 0 7
+  pub laid-out : (m : ℕ) → m ≤ 6 → LaidOut (layout 0 m) (bidders 0 m) 0 7
   pub sold-above : Sold soldAbove
   pub kept-at : Sold keptAt
   pub sold-at : Sold soldAt

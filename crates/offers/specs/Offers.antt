@@ -60,11 +60,11 @@ module _ (O : Offer) where
   Bids i = Among (market .many) (O .low) i
 
   -- each bidder's row in a table, and its bit in the number of a set (rules 1.6 and 4.9)
-  abbrev pub seats : prices.Seats
-  seats = prices.seats (O .low) (O .buyers)
+  abbrev pub layout : prices.Layout
+  layout = prices.layout (O .low) (O .buyers)
 
   abbrev pub member : ℕ → ℕ → Bool
-  member set i = prices.seatMember seats set i
+  member set i = prices.rowMember layout set i
 
   -- the numbers of sets are of so many bits
   abbrev pub bits : ℕ
@@ -72,11 +72,11 @@ module _ (O : Offer) where
 
   -- bidder i's worth of a bundle; that of the empty one is 0 (rule 1.4)
   abbrev pub worthOf : Table
-  worthOf i s = prices.price seats (O .worths) i s
+  worthOf i s = prices.price layout (O .worths) i s
 
   -- its price (rules 1.5 and 1.6)
   abbrev pub priceAt : List ℕ → Table
-  priceAt ps i s = prices.price seats ps i s
+  priceAt ps i s = prices.price layout ps i s
 
   -- the allocations without a bidder
   abbrev pub without : ℕ → List (List ℕ)
@@ -105,10 +105,10 @@ module _ (O : Offer) where
   module _ (ps : List ℕ) where
     -- a bidder's greatest payoff (rule 4.1), 65,535 higher
     abbrev pub best : ℕ → ℕ
-    best i = prices.best seats (O .bundles) worthOf ps i
+    best i = prices.best layout (O .bundles) worthOf ps i
 
     abbrev pub quote : auction.Quote
-    quote = prices.quote seats (O .bundles) worthOf ps
+    quote = prices.quote layout (O .bundles) worthOf ps
 
     -- rule 4.2: whether a bundle is demanded, and the demand set as one number
     abbrev pub demands : ℕ → ℕ → Bool

@@ -12,13 +12,13 @@ use Rattle.theory.specs.Markets.{sumOf, total, discount, pricePay}
 use Rattle.theory.specs.Auction.{closes}
 use Rattle.owners.specs.Prices.{zeros}
 use Rattle.owners.specs.Sales as sales
-use Rattle.offers.specs.Offers.{Offer, market, seats, worthOf, priceAt, without, economy, judgedIn, theAuction}
+use Rattle.offers.specs.Offers.{Offer, market, layout, worthOf, priceAt, without, economy, judgedIn, theAuction}
 use Rattle.offers.specs.Offers.{quote, isKeen}
 
 module _ (O : Offer) where
   -- rule 4.11: the prices after a round of the set
   unfoldable pub raised : ℕ → List ℕ → List ℕ
-  raised set ps = sales.step (theAuction O) (seats O) (O .bundles) (worthOf O) set ps
+  raised set ps = sales.step (theAuction O) (layout O) (O .bundles) (worthOf O) set ps
 
   -- rule 3.9: question 9's sum, the worths of all lots
   abbrev pub roundLimit : ℕ
@@ -26,15 +26,15 @@ module _ (O : Offer) where
 
   -- rule 1.6: zeros
   unfoldable pub startPrices : List ℕ
-  startPrices = zeros (seats O)
+  startPrices = zeros (layout O)
 
   -- rules 4.10 and 4.13: judged in the economies 0 to k, from the prices ps on, the sets of at most f rounds, until
   -- none is undersupplied; and the prices after them
   unfoldable pub setsFrom : ℕ → List ℕ → ℕ → List ℕ
-  setsFrom k ps f = sales.sets (judgedIn O k) (seats O) (O .bundles) (worthOf O) ps f
+  setsFrom k ps f = sales.sets (judgedIn O k) (layout O) (O .bundles) (worthOf O) ps f
 
   unfoldable pub pricesFrom : ℕ → List ℕ → ℕ → List ℕ
-  pricesFrom k ps f = sales.lastPrices (judgedIn O k) (seats O) (O .bundles) (worthOf O) ps f
+  pricesFrom k ps f = sales.lastPrices (judgedIn O k) (layout O) (O .bundles) (worthOf O) ps f
 
   -- the sets of a sale's rounds. Question 9's sum bounds how many are looked for; that no more would come is `last-uce`
   -- of demand 2.

@@ -1,7 +1,7 @@
--- Each set of bidders has a number, the sum of 2 ^ j over its bidders' seats j, and a proper subset has a lower one
--- (`seats-ranked`). Offers the laws of `number` (`number-bit`, `number-below`, `number-same`, and `number-down` for
--- loops), of demand sets (`demand-bit`, `demand-below`), and that m buyers sit (`plain-seated`), with a house too
--- (`house-seated`).
+-- Each set of bidders has a number, the sum of 2 ^ j over its bidders' rows j, and a proper subset has a lower one
+-- (`layout-ranked`). Offers the laws of `number` (`number-bit`, `number-below`, `number-same`, and `number-down` for
+-- loops), of demand sets (`demand-bit`, `demand-below`), and that m buyers are laid out (`buyers-laid-out`), with a
+-- house too (`house-laid-out`).
 use mathlib.Core.Path.{_≡_, refl, sym, ap, _∙_}
 use mathlib.Core.Bool.{Bool, true, false, _&&_}
 use Prim.Native.Nat.{ℕ, zero, suc, _+_, _-_, _*_, _/_, _%_, _^_, _≤_, _<_}
@@ -13,12 +13,12 @@ use lib.Dec.{eqb}
 use borrow.Author.Tests.{eq-eqb, ne-eqb, eqb-true, eqb-false, lt-ltb, ltb-true}
 use Rattle.theory.specs.Sums.{when, sum, Among}
 use Rattle.theory.specs.Markets.{Market}
-use Rattle.theory.specs.Auction.{Quote, Numbered, Ranked}
+use Rattle.theory.specs.Auction.{Quote, SetsNumbered, Ranked}
 use Rattle.theory.proofs.Tests.{by-test, fails, itself, and-means}
 use Rattle.numbers.proofs.Subsets.{bit-half}
 use Rattle.numbers.specs.Numbers.{bit}
 use Rattle.owners.specs.Owners.{number}
-use Rattle.owners.specs.Prices.{Seats, Seated, bidders, seats, plain, seatMember, demandSet}
+use Rattle.owners.specs.Prices.{Layout, LaidOut, bidders, layout, buyerRows, rowMember, demandSet}
 
 pub number-below : (k s : ℕ) (t : ℕ → Bool) → number k s t < 2 ^ k
 unfolding number
@@ -77,55 +77,57 @@ number-under (suc k) s t x h =
     ≡ 1 = eqb-true (x / 1 % 2) 1 (h 0 (omega arith) (ap t (omega arith) ∙ p)) in rw p (omega arith))
     (λ p. rw p (omega arith))
 
--- the numbering by seats
-module _ {A : Type 0} (M : Market A) (S : Seats) (bits : ℕ) (seated : Seated S (M .many) (M .low) bits) where
-  pub seats-ranked : Ranked M (seatMember S) (2 ^ bits)
-  seats-ranked t =
-      let u : ℕ → Bool = λ j. S .taken j && t (S .sitter j) in
+-- the numbering by rows
+module _ {A : Type 0} (M : Market A) (L : Layout) (bits : ℕ) (laid-out : LaidOut L (M .many) (M .low) bits) where
+  pub layout-ranked : Ranked M (rowMember L) (2 ^ bits)
+  layout-ranked t =
+      let u : ℕ → Bool = λ j. L .taken j && t (L .bidderAt j) in
       let n = number bits 0 u in
-      let same : (i : ℕ) → Among (M .many) (M .low) i → bit (S .seat i) n ≡ t i =
-      λ i r. let (l, p, back) = seated .sits i r in number-bit bits 0 u (S .seat i) l ∙ rw (zero-add, p, back) in (
+      let same : (i : ℕ) → Among (M .many) (M .low) i → bit (L .rowOf i) n ≡ t i =
+      λ i r. let (l, p, back) = laid-out .each-bidder i r in
+      number-bit bits 0 u (L .rowOf i) l ∙ rw (zero-add, p, back) in (
         n,
         number-below bits 0 u,
         same,
         λ k beneath.
             let (i, r, has, lacks) = beneath .short in
             let under : n ≤ k = number-under bits 0 u k (λ j l p.
-            let (taken, on) = and-means (itself (S .taken j)) (itself (t (S .sitter j))) .0 (ap u (omega arith) ∙ p) in
-            let (r, e) = seated .seats j taken in
-            ap (λ j. bit j k) (sym e) ∙ beneath .inside (S .sitter j) r on) in
+            let (taken, on) =
+            and-means (itself (L .taken j)) (itself (t (L .bidderAt j))) .0 (ap u (omega arith) ∙ p) in
+            let (r, e) = laid-out .each-row j taken in
+            ap (λ j. bit j k) (sym e) ∙ beneath .inside (L .bidderAt j) r on) in
             elim (ℕ-discrete n k) [
               | yes e ↦ fails has
-                  (ap (bit (S .seat i)) (sym e) ∙ same i r ∙ lacks)
+                  (ap (bit (L .rowOf i)) (sym e) ∙ same i r ∙ lacks)
               | no e ↦ omega arith
             ],
       )
 
 pub ranked-numbered : {A : Type 0} (M : Market A) (member : ℕ → ℕ → Bool) (sets : ℕ) → Ranked M member sets →
-    Numbered M member sets
+    SetsNumbered M member sets
 ranked-numbered M member sets ranked t = let (n, l, same, _) = ranked t in (n, l, same)
 
 -- sets have as many bits as there are bidders, or up to six
-pub plain-seated : (m bits : ℕ) → m ≤ bits → bits ≤ 6 → Seated (plain m) m 1 bits
-plain-seated m bits more few =
+pub buyers-laid-out : (m bits : ℕ) → m ≤ bits → bits ≤ 6 → LaidOut (buyerRows m) m 1 bits
+buyers-laid-out m bits more few =
     record {
       enough = few;
-      sits = λ i r. (omega arith, lt-ltb (i - 1) m (omega arith), omega arith);
-      seats = λ j p. (omega (arith, ltb-true j m p), omega arith);
+      each-bidder = λ i r. (omega arith, lt-ltb (i - 1) m (omega arith), omega arith);
+      each-row = λ j p. (omega (arith, ltb-true j m p), omega arith);
     }
 
 -- with a house sets have seven bits, of which it has the last
-pub house-seated : (m : ℕ) → m ≤ 6 → Seated (seats 0 m) (bidders 0 m) 0 7
-house-seated m few =
+pub house-laid-out : (m : ℕ) → m ≤ 6 → LaidOut (layout 0 m) (bidders 0 m) 0 7
+house-laid-out m few =
     record {
       enough = omega arith;
-      sits = λ i r.
+      each-bidder = λ i r.
           by-test (eqb i 0)
           (λ e. rw e (omega arith, refl, omega (arith, eqb-true i 0 e)))
           (λ e.
           let some : 1 ≤ i = omega (arith, eqb-false i 0 e) in
           rw (e, ne-eqb (i - 1) 6 (λ z. omega arith)) (omega arith, lt-ltb (i - 1) m (omega arith), omega arith));
-      seats = λ j p.
+      each-row = λ j p.
           by-test (eqb j 6)
           (λ e. rw e (omega arith, omega (arith, eqb-true j 6 e)))
           (λ e.

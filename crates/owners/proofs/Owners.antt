@@ -15,7 +15,7 @@ use lib.Seq.{take-nil}
 use borrow.Author.Tests.{eqb-true, eq-eqb, ne-eqb}
 use Rattle.theory.specs.Sums.{pick, when}
 use Rattle.theory.specs.Lists.{_∈_, keep}
-use Rattle.theory.specs.Markets.{without}
+use Rattle.theory.specs.Markets.{otherThan}
 use Rattle.theory.proofs.Lists.{keep-in}
 use Rattle.theory.proofs.Tests.{by-test, fails, Means, means-via, itself, and-means, not-means, eqb-means}
 use Rattle.owners.specs.Owners.{withOwner, spread, allocations, bundleFrom, lacks}
@@ -145,10 +145,10 @@ given-lacks t k i a z h =
 
 -- i left out, its lots with 0
 pub without-in : (os : List ℕ) (n i : ℕ) → 0 ∈ os → 0 ≢ i → {a : List ℕ} → a ∈ allocations os n →
-    given (without i) 0 a ∈ keep (lacks i) (allocations os n)
+    given (otherThan i) 0 a ∈ keep (lacks i) (allocations os n)
 without-in os n i nobody z {a} h =
-    keep-in (lacks i) (given-in os n (without i) nobody h)
-    (given-lacks (without i) 0 i a z (λ e. fails e (ap not (eq-eqb i i refl))))
+    keep-in (lacks i) (given-in os n (otherThan i) nobody h)
+    (given-lacks (otherThan i) 0 i a z (λ e. fails e (ap not (eq-eqb i i refl))))
 
 -- all lots owned by one
 pub some-allocation : (os : List ℕ) (k : ℕ) → k ∈ os → (n : ℕ) → replicate n k ∈ allocations os n

@@ -11,7 +11,7 @@ use lib.Dec.{eqb}
 use borrow.Author.Tests.{eqb-true, not-false, ne-eqb}
 use Rattle.theory.specs.Sums.{when}
 use Rattle.theory.specs.Lists.{_∈_, keep}
-use Rattle.theory.specs.Markets.{Bidder, Leaves, Drops, without}
+use Rattle.theory.specs.Markets.{Bidder, Leaves, Drops, otherThan}
 use Rattle.theory.specs.Auction.{Economy, whole, lacking, Sound}
 use Rattle.theory.proofs.Tests.{fails}
 use Rattle.theory.proofs.Lists.{keep-in, keep-from}
@@ -63,7 +63,7 @@ module _ (m n : ℕ) (os : List ℕ) (unsold : 0 ∈ os) (share : ℕ → ℕ) (
 
   pub leaves : (i : ℕ) → Bidder (market m share) i → Leaves (market m share) (λ s u. s ≡ u) i al (keep (lacks i) al)
   leaves i r a h = (
-    given (without i) 0 a,
+    given (otherThan i) 0 a,
     without-in os n i unsold (λ z. omega arith) h,
-    λ j q d. sym (bundle-given share (without i) 0 0 j a (λ z. omega arith) ∙ rw (ne-eqb j i d)),
+    λ j q d. sym (bundle-given share (otherThan i) 0 0 j a (λ z. omega arith) ∙ rw (ne-eqb j i d)),
   )

@@ -1,5 +1,5 @@
 -- Single lots of which some may stay unsold, at most four, among at most six buyers. A bundle's bits are the lots that
--- its buyer owns (`bundle-bit`). The lots make a `Hall` (`singles`), for any order of the owners. Assumes worths of
+-- its buyer owns (`bundle-bit`). The lots make a `Setting` (`singles`), for any order of the owners. Assumes worths of
 -- which all lots together have the most.
 use mathlib.Core.Path.{_≡_, refl, ap, _∙_}
 use mathlib.Core.Bool.{Bool, true, false}
@@ -13,18 +13,18 @@ use lib.Pow.{pow-pos, pow-mono}
 use Rattle.theory.specs.Sums.{when, sum, Among}
 use Rattle.theory.specs.Lists.{_∈_, keep}
 use Rattle.theory.specs.Markets.{Table}
-use Rattle.theory.specs.Auction.{Auction, Buyer, whole}
+use Rattle.theory.specs.Auction.{Auction, Marginal, whole}
 use Rattle.theory.proofs.Tests.{by-test}
 use Rattle.theory.proofs.Sums.{sum-mono, sum-const}
 use Rattle.theory.proofs.Lists.{keep-from}
 use Rattle.numbers.specs.Numbers.{bit}
 use Rattle.numbers.proofs.Subsets.{bit-half}
 use Rattle.owners.specs.Owners.{allocations, bundleFrom, lacks, market, single, auction, member}
-use Rattle.owners.specs.Prices.{plain}
-use Rattle.owners.specs.Sales.{Worths, Hall}
-use Rattle.owners.specs.Singles.{worth, AtMost}
+use Rattle.owners.specs.Prices.{buyerRows}
+use Rattle.owners.specs.Sales.{Valuations, Setting}
+use Rattle.owners.specs.Singles.{worthTable, AtMost}
 use Rattle.owners.proofs.Owners.{allocation-from}
-use Rattle.owners.proofs.Bits.{half-of, low-bit, seats-ranked, ranked-numbered, plain-seated}
+use Rattle.owners.proofs.Bits.{half-of, low-bit, layout-ranked, ranked-numbered, buyers-laid-out}
 use Rattle.owners.proofs.Economies.{economies-part, whole-in, lacking-in}
 use Rattle.owners.proofs.Ready.{sounds, leaves}
 
@@ -67,15 +67,15 @@ module _ (m n : ℕ) (few : m ≤ 6) (short : n ≤ 4) (os : List ℕ) (unsold :
   abbrev al : List (List ℕ)
   al = allocations os n
 
-  pub singles : Hall X (plain m) (2 ^ n) m al
+  pub singles : Setting X (buyerRows m) (2 ^ n) m al
   singles =
-      let seated = plain-seated m m (omega arith) few in
-      let ranked = seats-ranked (market m single) (plain m) m seated in
+      let laid-out = buyers-laid-out m m (omega arith) few in
+      let ranked = layout-ranked (market m single) (buyerRows m) m laid-out in
       let sound = sounds m n os unsold single (2 ^ n - 1) in
       record {
         ready = record { sound = sound; numbered = ranked-numbered (market m single) member (2 ^ m) ranked };
         ranked = ranked;
-        seated = seated;
+        laid-out = laid-out;
         small = pow-mono {i = n} {j = 4} short;
         topped = omega (arith, pow-pos n);
         bundled = λ a h i r. singles-below n i a (allocation-from os n h .0);
@@ -84,7 +84,7 @@ module _ (m n : ℕ) (few : m ≤ 6) (short : n ≤ 4) (os : List ℕ) (unsold :
         everybody = whole-in m al;
       }
 
-  pub singles-buyer : (i : ℕ) → Among m 1 i → Buyer X al i (keep (lacks i) al)
+  pub singles-buyer : (i : ℕ) → Among m 1 i → Marginal X al i (keep (lacks i) al)
   singles-buyer i r =
       record {
         leaving =
@@ -99,19 +99,19 @@ module _ (m n : ℕ) (few : m ≤ 6) (short : n ≤ 4) (os : List ℕ) (unsold :
 
   -- worths of which the empty bundle has none and all lots the most
   pub singles-worths : (v : Table) → ((i : ℕ) → Among m 1 i → v i 0 ≡ 0) →
-      ((i : ℕ) → Among m 1 i → (s : ℕ) → s < 2 ^ n → v i s ≤ v i (2 ^ n - 1)) → Worths X (plain m) (2 ^ n) v
+      ((i : ℕ) → Among m 1 i → (s : ℕ) → s < 2 ^ n → v i s ≤ v i (2 ^ n - 1)) → Valuations X (buyerRows m) (2 ^ n) v
   singles-worths v free topmost =
       record { proper = record { monotone = λ i r s u e. omega (arith, ap (v i) e); free = free }; topmost = topmost }
 
 -- worths up to c
-pub worth-small : (ws : List ℕ) (c i s : ℕ) → AtMost c ws → worth ws i s ≤ c
+pub worth-small : (ws : List ℕ) (c i s : ℕ) → AtMost c ws → worthTable ws i s ≤ c
 worth-small ws c i s h = by-test (eqb s 0) (λ e. rw e (omega arith)) (λ e. rw e (h (16 * (i - 1) + s)))
 
 -- so much at most is a bundle worth to six buyers
-pub limit-small : (m s : ℕ) → m ≤ 6 → (ws : List ℕ) → AtMost 9999 ws → sum m 1 (λ i. worth ws i s) ≤ 59994
+pub limit-small : (m s : ℕ) → m ≤ 6 → (ws : List ℕ) → AtMost 9999 ws → sum m 1 (λ i. worthTable ws i s) ≤ 59994
 limit-small m s few ws small =
     omega (
       arith,
       sum-const m 1 9999,
-      sum-mono m 1 (λ i. worth ws i s) (λ _. 9999) (λ i r. worth-small ws 9999 i s small),
+      sum-mono m 1 (λ i. worthTable ws i s) (λ _. 9999) (λ i r. worth-small ws 9999 i s small),
     )

@@ -1,5 +1,5 @@
 -- Prices as one list, sixteen to a row, and the quote that bidders with worths v make of them, at any prices. Each
--- bidder has a seat: its row, and its bit in the number of a set. Offers `price`, `payoff`, `quote`, a round's raise
+-- bidder has a row, and by it its bit in the number of a set. Offers `price`, `payoff`, `quote`, a round's raise
 -- (`raised`), and when a list `Holds` the prices of a sale's payoffs.
 use mathlib.Core.Path.{_≡_}
 use mathlib.Core.Bool.{Bool, true, _&&_, _||_}
@@ -13,19 +13,19 @@ use Rattle.theory.specs.Markets.{Market, Table, Bidder, asks}
 use Rattle.theory.specs.Auction.{Quote}
 use Rattle.numbers.specs.Numbers.{bit}
 
--- which row each bidder has, who sits at it, and whether anybody does
-pub record Seats : Type 0 where
+-- which row each bidder has, whose a row is, and whether it is taken
+pub record Layout : Type 0 where
   pub rows : ℕ
-  pub seat : ℕ → ℕ
-  pub sitter : ℕ → ℕ
+  pub rowOf : ℕ → ℕ
+  pub bidderAt : ℕ → ℕ
   pub taken : ℕ → Bool
 
--- the bidders have the seats that are taken, all of them below `bits`
-pub record Seated (S : Seats) (many low bits : ℕ) : Type 0 where
-  pub enough : bits ≤ S .rows
-  pub sits : (i : ℕ) → Among many low i → (S .seat i < bits) × (S .taken (S .seat i) ≡ true)
-      × (S .sitter (S .seat i) ≡ i)
-  pub seats : (j : ℕ) → S .taken j ≡ true → Among many low (S .sitter j) × (S .seat (S .sitter j) ≡ j)
+-- the bidders have the rows that are taken, all of them below `bits`
+pub record LaidOut (L : Layout) (many low bits : ℕ) : Type 0 where
+  pub enough : bits ≤ L .rows
+  pub each-bidder : (i : ℕ) → Among many low i → (L .rowOf i < bits) × (L .taken (L .rowOf i) ≡ true)
+      × (L .bidderAt (L .rowOf i) ≡ i)
+  pub each-row : (j : ℕ) → L .taken j ≡ true → Among many low (L .bidderAt j) × (L .rowOf (L .bidderAt j) ≡ j)
 
 -- how many bidders there are from `low` on: m buyers (low is 1), and the house (0)
 abbrev pub bidders : ℕ → ℕ → ℕ
@@ -43,31 +43,31 @@ row i = pick (eqb i 0) 6 (i - 1)
 abbrev pub entry : List ℕ → Table
 entry t i s = pick (eqb s 0) 0 (getD t (16 * row i + s) 0)
 
--- the seats of m buyers, and of the house where `low` is 0
-abbrev pub seats : ℕ → ℕ → Seats
-seats low m =
+-- the layout of m buyers, and of the house where `low` is 0
+abbrev pub layout : ℕ → ℕ → Layout
+layout low m =
     record {
       rows = rows low;
-      seat = λ i. pick (eqb low 0 && eqb i 0) 6 (i - 1);
-      sitter = λ j. pick (eqb low 0 && eqb j 6) 0 (suc j);
+      rowOf = λ i. pick (eqb low 0 && eqb i 0) 6 (i - 1);
+      bidderAt = λ j. pick (eqb low 0 && eqb j 6) 0 (suc j);
       taken = λ j. (eqb low 0 && eqb j 6) || ltb j m;
     }
 
 -- rule 1.6: m buyers, from 1 on, in six rows of sixteen prices
-abbrev pub plain : ℕ → Seats
-plain m = seats 1 m
+abbrev pub buyerRows : ℕ → Layout
+buyerRows m = layout 1 m
 
-module _ (S : Seats) where
-  abbrev pub seatMember : ℕ → ℕ → Bool
-  seatMember n i = bit (S .seat i) n
+module _ (L : Layout) where
+  abbrev pub rowMember : ℕ → ℕ → Bool
+  rowMember n i = bit (L .rowOf i) n
 
   -- rule 1.6: the prices at the start
   abbrev pub zeros : List ℕ
-  zeros = replicate (16 * S .rows) 0
+  zeros = replicate (16 * L .rows) 0
 
   -- rule 1.5: the empty bundle costs 0
   abbrev pub price : List ℕ → Table
-  price ps i s = pick (eqb s 0) 0 (getD ps (16 * S .seat i + s) 0)
+  price ps i s = pick (eqb s 0) 0 (getD ps (16 * L .rowOf i + s) 0)
 
   -- rule 4.1: worth less price, kept 65,535 higher, so that none is negative
   abbrev pub payoff : Table → List ℕ → Table
@@ -88,23 +88,23 @@ module _ (S : Seats) where
 
   -- place k is that of a bidder and of a bundle that is not empty
   abbrev pub read : ℕ → ℕ → Bool
-  read all k = S .taken (k / 16) && (leb 1 (k - 16 * (k / 16)) && ltb (k - 16 * (k / 16)) all)
+  read all k = L .taken (k / 16) && (leb 1 (k - 16 * (k / 16)) && ltb (k - 16 * (k / 16)) all)
 
   -- rule 4.11: the price at place k after a round; the place is that of row j and bundle s
   abbrev pub raisedAt : ℕ → Table → (ℕ → Bool) → List ℕ → ℕ → ℕ → ℕ → ℕ
   raisedAt all v set ps k j s =
-      getD ps k 0 + when (S .taken j &&
-      (leb 1 s && (ltb s all && (set (S .sitter j) && quote all v ps .wants (S .sitter j) s)))) 1
+      getD ps k 0 + when (L .taken j &&
+      (leb 1 s && (ltb s all && (set (L .bidderAt j) && quote all v ps .wants (L .bidderAt j) s)))) 1
 
   abbrev pub raised : ℕ → Table → (ℕ → Bool) → List ℕ → List ℕ
-  raised all v set ps = tabulate (16 * S .rows) 0 (λ k. raisedAt all v set ps k (k / 16) (k - 16 * (k / 16)))
+  raised all v set ps = tabulate (16 * L .rows) 0 (λ k. raisedAt all v set ps k (k / 16) (k - 16 * (k / 16)))
 
 -- rule 4.2: a demand set, of bundles below `all`, as one number
 abbrev pub demandSet : ℕ → Quote → ℕ → ℕ
 demandSet all q i = sum all 0 (λ s. when (q .wants i s) (2 ^ s))
 
 -- the list holds the prices of the payoffs π: worths v, bundles below `all`, of which `top` is worth most
-pub record Holds {A : Type 0} (M : Market A) (S : Seats) (all top : ℕ) (v : Table) (ps : List ℕ)
+pub record Holds {A : Type 0} (M : Market A) (L : Layout) (all top : ℕ) (v : Table) (ps : List ℕ)
     (π : ℕ → ℕ) : Type 0 where
   pub modest : (i : ℕ) → Bidder M i → π i ≤ v i top
-  pub prices : (i : ℕ) → Bidder M i → (s : ℕ) → s < all → price S ps i s ≡ asks v π i s
+  pub prices : (i : ℕ) → Bidder M i → (s : ℕ) → s < all → price L ps i s ≡ asks v π i s

@@ -1,5 +1,5 @@
--- A sale by a list of prices, for any auction whose bidders have seats, with bundles below `all`. Offers the rounds
--- (`sets`, `lastPrices`), and what demands 2 and 3 ask of the worths (`Worths`) and of the auction (`Hall`).
+-- A sale by a list of prices, for any auction whose bidders have rows, with bundles below `all`. Offers the rounds
+-- (`sets`, `lastPrices`), and what demands 2 and 3 ask of the worths (`Valuations`) and of the auction (`Setting`).
 use mathlib.Core.List.{List}
 use Prim.Native.Nat.{ℕ, _≤_, _<_}
 use Rattle.theory.specs.Lists.{_∈_}
@@ -8,16 +8,16 @@ use Rattle.theory.specs.Markets.{Table, Bidder, sumOf}
 use Rattle.theory.specs.Auction.{Economy, whole, Ranked, Auction, Ready, Proper, chosen, start}
 use Rattle.theory.specs.Universal.{Bundled}
 use Rattle.theory.specs.Coalitions.{Part}
-use Rattle.owners.specs.Prices.{Seats, Seated, quote, raised}
+use Rattle.owners.specs.Prices.{Layout, LaidOut, quote, raised}
 
-module _ {A : Type 0} (X : Auction A) (S : Seats) (all : ℕ) where
+module _ {A : Type 0} (X : Auction A) (L : Layout) (all : ℕ) where
   -- 1 more than the number of the lowest undersupplied set, 0 if there is none and the sale is settled
   abbrev pub choose : Table → List ℕ → ℕ
-  choose v ps = chosen X (quote S all v ps)
+  choose v ps = chosen X (quote L all v ps)
 
   -- the prices after a round that takes the set x
   abbrev pub step : Table → ℕ → List ℕ → List ℕ
-  step v x ps = raised S all v (X .member x) ps
+  step v x ps = raised L all v (X .member x) ps
 
   -- the sets of at most f rounds from the prices ps on, and the prices after them
   abbrev pub sets : Table → List ℕ → ℕ → List ℕ
@@ -31,15 +31,15 @@ module _ {A : Type 0} (X : Auction A) (S : Seats) (all : ℕ) where
   limit v = sumOf (X .market) (start X v)
 
   -- worths of which the bundle of all has the most
-  pub record Worths (v : Table) : Type 0 where
+  pub record Valuations (v : Table) : Type 0 where
     pub proper : Proper X v
     pub topmost : (i : ℕ) → Bidder (X .market) i → (s : ℕ) → s < all → v i s ≤ v i (X .top)
 
   -- what such a sale asks of the allocations of all
-  pub record Hall (bits : ℕ) (al : List A) : Type 0 where
+  pub record Setting (bits : ℕ) (al : List A) : Type 0 where
     pub ready : Ready X
     pub ranked : Ranked (X .market) (X .member) (X .sets)
-    pub seated : Seated S (X .market .many) (X .market .low) bits
+    pub laid-out : LaidOut L (X .market .many) (X .market .low) bits
     pub small : all ≤ 16
     pub topped : X .top < all
     pub bundled : Bundled (X .market) (λ s. s < all) al

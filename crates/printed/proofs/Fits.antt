@@ -16,7 +16,7 @@ use Rattle.theory.specs.Markets.{total}
 use Rattle.theory.proofs.Sums.{sum-mono, sum-const}
 use Rattle.theory.proofs.Lists.{most-bound, at-in, zeros-at}
 use Rattle.owners.specs.Owners.{zeroFirst}
-use Rattle.owners.specs.Prices.{plain, price}
+use Rattle.owners.specs.Prices.{buyerRows, price}
 use Rattle.owners.proofs.Owners.{allocation-from}
 use Rattle.owners.proofs.Singles.{singles-below, worth-small, limit-small}
 use Rattle.sheet.specs.Sheets.{Sheet, sheetOf}
@@ -35,14 +35,14 @@ use Rattle.offers.proofs.Lots.{shape, regular}
 use Rattle.offers.proofs.Theorems as sales
 use Rattle.sale.proofs.Opening.{sale-open, sale-closed}
 use Rattle.direct.specs.Answers.{directAnswer}
-use Rattle.demands.proofs.First.{demand-1}
-use Rattle.demands.proofs.Third.{demand-3}
+use Rattle.promises.proofs.First.{refusals-hold}
+use Rattle.promises.proofs.Third.{outcomes-hold}
 use Rattle.printed.specs.Printed.{Printable}
 
 -- six places, each below a bound
-seats-small : (c m : ℕ) (f : ℕ → ℕ) → m ≤ 6 → 0 < c → ((k : ℕ) → k < m → f (suc k) < c) →
+places-small : (c m : ℕ) (f : ℕ → ℕ) → m ≤ 6 → 0 < c → ((k : ℕ) → k < m → f (suc k) < c) →
     (k : ℕ) → getD (perBuyer m f) k 0 < c
-seats-small c m f few some h k =
+places-small c m f few some h k =
     elim (decLt k m) [
       | yes g ↦ rw (per-buyer-at m f k few g) (h k g)
       | no g ↦ rw
@@ -95,7 +95,7 @@ module _ (b : List ℕ) (accepted : sheetFault b .number ≡ 0) where
   unfolding settledSale
   payment-small o o′ r says z e k h =
       let j : suc k - 1 ≡ k = omega arith in
-      let low = demand-3 .payment-bound b o o′ r says z (suc k) (omega arith) .1 in
+      let low = outcomes-hold .payment-bound b o o′ r says z (suc k) (omega arith) .1 in
       let same =
       ap (λ i. getD (r .payments) i 0) j ∙ ap (λ (s : Sale). getD (s .payments) k 0) e
       ∙ per-buyer-at (w .buyers) (paymentFor O ps) k (shape b accepted .few-buyers) h in
@@ -107,8 +107,8 @@ owner-small : (b o o′ : List ℕ) (r : Sale) → SaleSays b o o′ r → r .nu
 owner-small b o o′ r says z few j =
     let w = sheetOf b in
     let d = directAnswer b in
-    let same = demand-3 .alike b o o′ r d says refl z in
-    let told = demand-3 .reckoned b d refl (same .0) in
+    let same = outcomes-hold .alike b o o′ r d says refl z in
+    let told = outcomes-hold .reckoned b d refl (same .0) in
     let (long, owns) = told .list in
     rw (same .1)
     (elim (decLt j (w .lots)) [
@@ -141,13 +141,14 @@ settled-fits b o o′ r says z =
       table = omega (arith, ap (λ (s : Sale). length (s .prices)) e, last-table b);
       prices =
           subst (λ (x : Sale). (i s : ℕ) → Among (x .buyers) 1 i → s < 2 ^ x .lots →
-          price (plain 6) (x .prices) i s < 1000000) (sym e)
+          price (buyerRows 6) (x .prices) i s < 1000000) (sym e)
           (λ i s a h. omega (arith, cheap b yes′ i s a h));
       discounts = λ k. rw e
-          (seats-small 1000000 (w .buyers) (discountFor (offerOf b) (lastPrices (offerOf b))) (shape b yes′ .few-buyers)
+          (places-small 1000000 (w .buyers) (discountFor (offerOf b) (lastPrices (offerOf b)))
+          (shape b yes′ .few-buyers)
           (omega arith) (discount-small b yes′) k);
       payments = λ k. rw e
-          (seats-small 1000000 (w .buyers) (paymentFor (offerOf b) (lastPrices (offerOf b))) (shape b yes′ .few-buyers)
+          (places-small 1000000 (w .buyers) (paymentFor (offerOf b) (lastPrices (offerOf b))) (shape b yes′ .few-buyers)
           (omega arith) (payment-small b yes′ o o′ r says z e) k);
     }
 
@@ -156,7 +157,7 @@ refused-fits : (b o o′ : List ℕ) (r : Sale) → SaleSays b o o′ r → r .n
 unfolding refusedSale
 refused-fits b o o′ r says n =
     let e = sale-closed b o o′ r says n .0 in
-    let told = demand-1 .sells b o o′ r says in
+    let told = refusals-hold .sells b o o′ r says in
     record {
       number =
           elim (told .range) [
@@ -204,7 +205,8 @@ prints-fit b o o′ r says =
 -- no sheet asks for more than 59,994 bytes of record
 pub limit-low : (b : List ℕ) → sheetFault b .number ≡ 0 → roundLimit (offerOf b) ≤ 59994
 limit-low b z =
-    limit-small (sheetOf b .buyers) (2 ^ sheetOf b .lots - 1) (shape b z .few-buyers) (sheetOf b .worths) (shape b z .small)
+    limit-small (sheetOf b .buyers) (2 ^ sheetOf b .lots - 1) (shape b z .few-buyers) (sheetOf b .worths)
+    (shape b z .small)
 
 -- with room for 59,994 rounds question 9 is answered yes
 module _ (b : List ℕ) (room : ℕ) (long : 59994 ≤ room) where

@@ -26,8 +26,8 @@ use Rattle.offers.specs.Rounds.{roundLimit}
 use Rattle.sale.specs.Answers.{settledSale, refusedSale, saleAnswer, saleRecord, SaleSays}
 use Rattle.offers.proofs.Lots.{shape}
 use Rattle.sale.proofs.Opening.{sale-number}
-use Rattle.demands.specs.Claims.{unplaced}
-use Rattle.demands.proofs.First.{demand-1}
+use Rattle.promises.specs.Claims.{unplaced}
+use Rattle.promises.proofs.First.{refusals-hold}
 use Rattle.printed.specs.declared.Text.{Text}
 use Rattle.printed.specs.Printed.{printed, settledText, refusedText, printedSale, Puts, PrintSays, PrintsSale}
 use Rattle.printed.specs.Printed.{textOf, Prints}
@@ -114,7 +114,7 @@ refused-print : (b o o′ : List ℕ) (r : Sale) → SaleSays b o o′ r → r .
     (printed r ≡ refusedText (r .number) (r .place)) × (o′ ≡ o)
 refused-print b o o′ r says n = (
   ap (λ x. pick x (settledText r) (refusedText (r .number) (r .place))) (ne-eqb (r .number) 0 n),
-  demand-1 .sells-refused b o o′ r says n .1,
+  refusals-hold .sells-refused b o o′ r says n .1,
 )
 
 print-numbered : (b o o′ t t′ : List ℕ) (k : ℕ) → PrintSays b o o′ t t′ k →
@@ -126,7 +126,7 @@ print-numbered b o o′ t t′ k says =
       record {
         answer = r;
         says = sale;
-        numbered = demand-1 .sells b o o′ r sale;
+        numbered = refusals-hold .sells b o o′ r sale;
         text-is = refl;
         refused = refused-print b o o′ r sale;
       },
@@ -139,7 +139,7 @@ text-numbered b o long =
     let r = saleAnswer b (length o) in
     let o′ = saleRecord b o in
     let sale : SaleSays b o o′ r = record { answer = refl; bytes = refl } in
-    let told = demand-1 .sells b o o′ r sale in
+    let told = refusals-hold .sells b o o′ r sale in
     let is : printedSale b ≡ printed r = sym (any-record b (length o) long) in (
       o′,
       record {

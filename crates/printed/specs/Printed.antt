@@ -10,13 +10,13 @@ use Rattle.theory.specs.Sums.{Among, pick}
 use Rattle.theory.specs.Lists.{tabulate, over}
 use Rattle.fields.specs.Fields.{lineOf, linesOf}
 use Rattle.owners.specs.Owners.{bundleFrom, single}
-use Rattle.owners.specs.Prices.{plain, price}
+use Rattle.owners.specs.Prices.{buyerRows, price}
 use Rattle.sale.specs.declared.Sale.{Sale}
 use Rattle.sheet.specs.Questions.{accepts, onward, sheetFault}
 use Rattle.offers.specs.Offers.{offerOf}
 use Rattle.offers.specs.Rounds.{roundLimit}
 use Rattle.sale.specs.Answers.{saleFault, settledSale, saleAnswer, saleRecord, SaleSays}
-use Rattle.demands.specs.Claims.{Own, unplaced, Numbered}
+use Rattle.promises.specs.Claims.{Own, unplaced, Numbered}
 use Rattle.printed.specs.declared.Text.{Text}
 
 -- rule 6.3: the line of a lot; lots are counted from 0 here
@@ -26,7 +26,7 @@ lotLine owners j = (j + 1) ∷ getD owners j 0 ∷ []
 -- rule 6.3: the line of a buyer, counted from 0 as well
 abbrev pub buyerLine : Sale → ℕ → List ℕ
 buyerLine r i =
-    (i + 1) ∷ price (plain 6) (r .prices) (i + 1) (bundleFrom single 0 (i + 1) (take (r .lots) (r .owners)))
+    (i + 1) ∷ price (buyerRows 6) (r .prices) (i + 1) (bundleFrom single 0 (i + 1) (take (r .lots) (r .owners)))
     ∷ getD (r .discounts) i 0 ∷ getD (r .payments) i 0 ∷ []
 
 -- rule 6.3: the first line, then those of the lots and of the buyers
@@ -67,7 +67,7 @@ pub record Printable (r : Sale) : Type 0 where
   pub rounds : r .rounds < 1000000
   pub owners : (j : ℕ) → getD (r .owners) j 0 < 1000000
   pub table : 96 ≤ length (r .prices)
-  pub prices : (i s : ℕ) → Among (r .buyers) 1 i → s < 2 ^ r .lots → price (plain 6) (r .prices) i s < 1000000
+  pub prices : (i s : ℕ) → Among (r .buyers) 1 i → s < 2 ^ r .lots → price (buyerRows 6) (r .prices) i s < 1000000
   pub discounts : (k : ℕ) → getD (r .discounts) k 0 < 1000000
   pub payments : (k : ℕ) → getD (r .payments) k 0 < 1000000
 

@@ -19,21 +19,21 @@ use Rattle.theory.proofs.Sums.{when-one}
 use Rattle.theory.proofs.Lists.{tabulate-at, tabulate-length, tabulate-same}
 use Rattle.theory.proofs.Loops.{Filled, filled-more, filled-all}
 use Rattle.owners.specs.Owners.{member}
-use Rattle.owners.specs.Prices.{plain}
+use Rattle.owners.specs.Prices.{buyerRows}
 use Rattle.owners.specs.Quick.{left, rising, raisedBy}
-use Rattle.owners.specs.Singles.{worth, AtMost}
-use Rattle.supply.specs.Supply.{owed}
+use Rattle.owners.specs.Singles.{worthTable, AtMost}
+use Rattle.supply.specs.Supply.{payoffAt}
 use Rattle.raising.specs.Raising.{raisedRow}
 
 -- the payoff of a bundle that is not empty
 pub payoff-some : (top : ℕ) (ws ps : List ℕ) (i w p : ℕ) → 1 ≤ top → w ≡ getD ws (16 * (i - 1) + top) 0 → p
     ≡ getD ps (16 * (i - 1) + top) 0 →
-    w - p ≡ left (plain 6) (worth ws) top ps i
+    w - p ≡ left (buyerRows 6) (worthTable ws) top ps i
 payoff-some top ws ps i w p h ew ep = rw (ew, ep, ne-eqb top 0 (λ z. omega arith))
 
 -- the payoffs of the first i buyers
 pub record Reading (top : ℕ) (ws ps : List ℕ) (i : ℕ) (r : List ℕ) : Type 0 where
-  pub filled : Filled (λ j. left (plain 6) (worth ws) top ps (j + 1)) 6 i r
+  pub filled : Filled (λ j. left (buyerRows 6) (worthTable ws) top ps (j + 1)) 6 i r
   pub small : AtMost 9999 r
 
 set-small : (l : List ℕ) (i x c : ℕ) → i < length l → x ≤ c → AtMost c l → AtMost c (set l i x)
@@ -44,7 +44,7 @@ set-small l i x c h lx small j =
     ]
 
 pub read-next : {top : ℕ} {ws ps : List ℕ} {i : ℕ} {r : List ℕ} (x : ℕ) → Reading top ws ps i r → i < 6 →
-    x ≡ left (plain 6) (worth ws) top ps (i + 1) → x ≤ 9999 → Reading top ws ps (i + 1) (set r i x)
+    x ≡ left (buyerRows 6) (worthTable ws) top ps (i + 1) → x ≤ 9999 → Reading top ws ps (i + 1) (set r i x)
 read-next {i = i} {r} x g h ex lx =
     record {
       filled = filled-more _ 6 i x r h ex (g .filled);
@@ -52,10 +52,10 @@ read-next {i = i} {r} x g h ex lx =
     }
 
 pub read-end : {top : ℕ} {ws ps : List ℕ} {i : ℕ} {r : List ℕ} (m : ℕ) → Reading top ws ps i r → m ≤ i →
-    (j : ℕ) → 1 ≤ j → j ≤ m → owed r j ≡ left (plain 6) (worth ws) top ps j
+    (j : ℕ) → 1 ≤ j → j ≤ m → payoffAt r j ≡ left (buyerRows 6) (worthTable ws) top ps j
 read-end {top} {ws} {ps} m g h j lo hi =
     let e : j - 1 + 1 ≡ j = omega arith in
-    g .filled .done (j - 1) (omega arith) ∙ ap (left (plain 6) (worth ws) top ps) e
+    g .filled .done (j - 1) (omega arith) ∙ ap (left (buyerRows 6) (worthTable ws) top ps) e
 
 -- prices of which those rise by 1 whose row and bundle pass a test
 module _ (t : ℕ → ℕ → Bool) (ps : List ℕ) where
@@ -114,25 +114,25 @@ tabulate-small (suc k) s c f h zero = h s
 tabulate-small (suc k) s c f h (suc j) = tabulate-small k (suc s) c f h j
 
 pub raised-long : (m all : ℕ) (v : Table) (set : ℕ → Bool) (π : ℕ → ℕ) (ps : List ℕ) →
-    length (raisedBy (plain m) all v set π ps) ≡ 96
+    length (raisedBy (buyerRows m) all v set π ps) ≡ 96
 unfolding raisedBy
-raised-long m all v set π ps = tabulate-length 96 0 (risenPrice (rising (plain m) all v set π) ps)
+raised-long m all v set π ps = tabulate-length 96 0 (risenPrice (rising (buyerRows m) all v set π) ps)
 
 pub raised-small : (m all : ℕ) (v : Table) (set : ℕ → Bool) (π : ℕ → ℕ) (ps : List ℕ) (c : ℕ) → AtMost c ps →
-    AtMost (c + 1) (raisedBy (plain m) all v set π ps)
+    AtMost (c + 1) (raisedBy (buyerRows m) all v set π ps)
 unfolding raisedBy
 raised-small m all v set π ps c h =
-    let t = rising (plain m) all v set π in
+    let t = rising (buyerRows m) all v set π in
     tabulate-small 96 0 (c + 1) (risenPrice t ps) (λ k. omega (arith, h k, when-one (t (k / 16) (k - 16 * (k / 16)))))
 
 -- and leaves those of bundles that are not below `all`
 raised-past : (m all : ℕ) (v : Table) (set : ℕ → Bool) (π : ℕ → ℕ) (ps : List ℕ) (j s k : ℕ) → k ≡ 16 * j + s →
-    all ≤ s → s < 16 → k < 96 → getD (raisedBy (plain m) all v set π ps) k 0 ≡ getD ps k 0
+    all ≤ s → s < 16 → k < 96 → getD (raisedBy (buyerRows m) all v set π ps) k 0 ≡ getD ps k 0
 unfolding raisedBy
 raised-past m all v set π ps j s k ek past few h =
     let row : k / 16 ≡ j = omega arith in
     let bundle : k - 16 * (k / 16) ≡ s = omega arith in
-    risen-at (rising (plain m) all v set π) ps k h
+    risen-at (rising (buyerRows m) all v set π) ps k h
     ∙ rw (bundle, row, le-ltb s all past, and-false (leb 1 s), and-false (ltb j m)) (omega arith)
 
 -- a range that ends one later has its last number more
@@ -146,7 +146,7 @@ ltb-more n i h =
 -- the row of buyer i, raised for the bundles below s
 module _ (ws : List ℕ) (i left : ℕ) (lo : 1 ≤ i) (hi : i ≤ 6) (ps : List ℕ) where
   abbrev own : ℕ → ℕ → ℕ → Bool
-  own all j s = rising (plain 6) all (worth ws) (eqb i) (λ _. left) j s
+  own all j s = rising (buyerRows 6) all (worthTable ws) (eqb i) (λ _. left) j s
 
   pub row-none : length ps ≡ 96 → ps ≡ raisedRow 1 ws i left ps
   unfolding raisedBy
@@ -164,7 +164,7 @@ module _ (ws : List ℕ) (i left : ℕ) (lo : 1 ≤ i) (hi : i ≤ 6) (ps : List
     pub row-at : getD next k 0 ≡ getD ps k 0
     row-at =
         ap (λ l. getD l k 0) so-far
-        ∙ raised-past 6 s (worth ws) _ _ ps (i - 1) s k refl (omega arith) few (omega arith)
+        ∙ raised-past 6 s (worthTable ws) _ _ ps (i - 1) s k refl (omega arith) few (omega arith)
 
     pub row-more : (w v : ℕ) → w ≡ getD ws k 0 → v ≡ getD next k 0 + when (leb left w) 1 →
         set next k v ≡ raisedRow (s + 1) ws i left ps
@@ -201,16 +201,16 @@ module _ (m all : ℕ) (ws : List ℕ) (x : ℕ) (π : ℕ → ℕ) (ps : List �
   before i n = ltb n i && member x n
 
   abbrev rise : ℕ → ℕ → ℕ → Bool
-  rise i j s = rising (plain m) all (worth ws) (before i) π j s
+  rise i j s = rising (buyerRows m) all (worthTable ws) (before i) π j s
 
   abbrev pub raisedTo : ℕ → List ℕ
-  raisedTo i = raisedBy (plain m) all (worth ws) (before i) π ps
+  raisedTo i = raisedBy (buyerRows m) all (worthTable ws) (before i) π ps
 
   pub rows-long : (i : ℕ) → length (raisedTo i) ≡ 96
-  rows-long i = raised-long m all (worth ws) (before i) π ps
+  rows-long i = raised-long m all (worthTable ws) (before i) π ps
 
   pub rows-small : (i c : ℕ) → AtMost c ps → AtMost (c + 1) (raisedTo i)
-  rows-small i c h = raised-small m all (worth ws) (before i) π ps c h
+  rows-small i c h = raised-small m all (worthTable ws) (before i) π ps c h
 
   pub rows-none : length ps ≡ 96 → ps ≡ raisedTo 1
   unfolding raisedBy
@@ -222,7 +222,7 @@ module _ (m all : ℕ) (ws : List ℕ) (x : ℕ) (π : ℕ → ℕ) (ps : List �
     unfolding raisedBy
     rows-in p next so-far left el =
         ap (raisedRow all ws i left) so-far
-        ∙ (risen-then (rise i) (rise (i + 1)) ps (rising (plain 6) all (worth ws) (eqb i) (λ _. left)) (λ j s.
+        ∙ (risen-then (rise i) (rise (i + 1)) ps (rising (buyerRows 6) all (worthTable ws) (eqb i) (λ _. left)) (λ j s.
         elim (ℕ-discrete i (suc j)) [
           | yes e ↦
               let has : member x (suc j) ≡ true = ap (member x) (sym e) ∙ p in
@@ -257,10 +257,10 @@ module _ (m all : ℕ) (ws : List ℕ) (x : ℕ) (π : ℕ → ℕ) (ps : List �
           | no n ↦ rw (ltb-more (suc j) i n)
         ])
 
-  pub rows-end : (i : ℕ) → m < i → raisedTo i ≡ raisedBy (plain m) all (worth ws) (member x) π ps
+  pub rows-end : (i : ℕ) → m < i → raisedTo i ≡ raisedBy (buyerRows m) all (worthTable ws) (member x) π ps
   unfolding raisedBy
   rows-end i h =
-      risen-same (rise i) (rising (plain m) all (worth ws) (member x) π) ps (λ j s.
+      risen-same (rise i) (rising (buyerRows m) all (worthTable ws) (member x) π) ps (λ j s.
       by-test (ltb j m)
       (λ e. rw (lt-ltb (suc j) i (omega (arith, ltb-true j m e))))
       (λ e. rw e))

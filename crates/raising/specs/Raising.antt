@@ -6,10 +6,10 @@ use Prim.Native.Nat.{ℕ, _^_, _≤_, _<_}
 use lib.Dec.{eqb}
 use lib.ListN.{length}
 use Rattle.theory.specs.Kept.{shared}
-use Rattle.owners.specs.Prices.{plain}
+use Rattle.owners.specs.Prices.{buyerRows}
 use Rattle.owners.specs.Owners.{member}
 use Rattle.owners.specs.Quick.{raisedBy, presentIn, roster}
-use Rattle.owners.specs.Singles.{worth}
+use Rattle.owners.specs.Singles.{worthTable}
 
 -- a table of the buyers' six rows of sixteen numbers
 abbrev pub Rows : List ℕ → Type 0
@@ -17,7 +17,7 @@ Rows t = length t ≡ 96
 
 -- the prices ps after a raise of buyer i alone, which has `left` left
 abbrev pub raisedRow : ℕ → List ℕ → ℕ → ℕ → List ℕ → List ℕ
-raisedRow all ws i left ps = raisedBy (plain 6) all (worth ws) (eqb i) (λ _. left) ps
+raisedRow all ws i left ps = raisedBy (buyerRows 6) all (worthTable ws) (eqb i) (λ _. left) ps
 
 -- r counts the members of the set n that the set x has too, whatever the number of buyers that x is a set of
 pub record Common (x n r : ℕ) : Type 0 where

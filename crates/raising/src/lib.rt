@@ -4,10 +4,11 @@ ghost use Prim.Native.Nat.{ℕ, _^_, _≤_, _<_};
 ghost use lib.ListN.{length};
 ghost use Rattle.numbers.specs.Numbers.{Is};
 ghost use Rattle.owners.specs.Owners.{member};
-ghost use Rattle.owners.specs.Prices.{plain};
+ghost use Rattle.owners.specs.Prices.{buyerRows};
 ghost use Rattle.owners.specs.Quick.{left, raisedBy};
-ghost use Rattle.owners.specs.Singles.{worth, AtMost};
-ghost use Rattle.supply.specs.Supply.{owed, NextPayoffs, NextGains, NextRevenues, Keens, SmallGains, SmallRevenues};
+ghost use Rattle.owners.specs.Singles.{worthTable, AtMost};
+ghost use Rattle.supply.specs.Supply.{payoffAt, NextPayoffs, NextGains, NextRevenues, KeenMembers, SmallGains};
+ghost use Rattle.supply.specs.Supply.{SmallRevenues};
 ghost use Rattle.raising.specs.Raising.{Rows, raisedRow, Common, AllBut};
 use numbers::has;
 use numbers::power;
@@ -18,7 +19,7 @@ use supply::is_member;
 fn payoff(worths: &[u16], prices: &[u16], i: usize, top: usize) -> u32
     requires { ⌜ (1 ≤ i) × (i ≤ 6) × (1 ≤ top) × (top ≤ 15) × Rows (now worths) × Rows (now prices)
         × AtMost 9999 (now worths) ⌝ }
-    ensures { λ r. ⌜ Is (left (plain 6) (worth (now (worths .entry))) top (now (prices .entry)) i) r 9999 ⌝ }
+    ensures { λ r. ⌜ Is (left (buyerRows 6) (worthTable (now (worths .entry))) top (now (prices .entry)) i) r 9999 ⌝ }
 {
     let at = 16 * (i - 1) + top;
     let w = wide(worths[at]);
@@ -31,7 +32,7 @@ pub fn payoffs(worths: &[u16], prices: &[u16], buyers: usize, top: usize) -> [u3
     requires { ⌜ (buyers ≤ 6) × (1 ≤ top) × (top ≤ 15) × Rows (now worths) × Rows (now prices)
         × AtMost 9999 (now worths) ⌝ }
     ensures { λ r. ⌜ AtMost 9999 r × ((i : ℕ) → 1 ≤ i → i ≤ buyers →
-        owed r i ≡ left (plain 6) (worth (now (worths .entry))) top (now (prices .entry)) i) ⌝ }
+        payoffAt r i ≡ left (buyerRows 6) (worthTable (now (worths .entry))) top (now (prices .entry)) i) ⌝ }
 {
     let mut left = [0u32; 6];
     let mut i: usize = 0;
@@ -69,7 +70,8 @@ pub fn raise(
     requires { ⌜ (buyers ≤ 6) × (1 ≤ bundles) × (bundles ≤ 16) × Rows (now worths) × Rows (now prices)
         × AtMost 60000 (now prices) ⌝ }
     ensures { λ _. ⌜ now (prices .exit)
-        ≡ raisedBy (plain buyers) bundles (worth (now (worths .entry))) (member set) (owed (now (payoffs .entry)))
+        ≡ raisedBy (buyerRows buyers) bundles (worthTable (now (worths .entry))) (member set)
+        (payoffAt (now (payoffs .entry)))
         (now (prices .entry)) ⌝ }
 {
     let mut i: usize = 1;
@@ -84,7 +86,7 @@ pub fn raise(
 // Takes 1 from what each member has left.
 pub fn lower_payoffs(payoffs: &mut [u32; 6], buyers: usize, set: usize)
     requires { ⌜ (buyers ≤ 6) × (length (now payoffs) ≡ 6) × AtMost 9999 (now payoffs)
-        × Keens buyers (now payoffs) set ⌝ }
+        × KeenMembers buyers (now payoffs) set ⌝ }
     ensures { λ _. ⌜ (length (now (payoffs .exit)) ≡ 6) × AtMost 9999 (now (payoffs .exit))
         × NextPayoffs buyers (now (payoffs .entry)) set (now (payoffs .exit)) ⌝ }
 {
@@ -129,7 +131,8 @@ fn all_but(absent: usize) -> usize
     63 - power(absent - 1)
 }
 
-// Adds to the revenue of each economy, up to that of number `last`, how many members are present, less 1 if its word has not the set.
+// Adds to the revenue of each economy, up to that of number `last`, how many members are present, less 1 if its word
+// has not the set.
 pub fn raise_revenues(
     revenues: &mut [u32; 7],
     words: &[u64; 7],

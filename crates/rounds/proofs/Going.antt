@@ -34,8 +34,8 @@ pub record Done (choose : List ℕ → ℕ) (step : ℕ → List ℕ → List �
   pub rounds : n ≡ length (choices choose step limit start)
   pub bytes : l ≡ over (choices choose step limit start) o
 
--- and rounds that go on: n of them so far, with the prices ps, at first at most c; `sets` are theirs, and the record was
--- o and is l
+-- and rounds that go on: n of them so far, with the prices ps, at first at most c; `sets` are theirs, and the record
+-- was o and is l
 pub record Going (choose : List ℕ → ℕ) (step : ℕ → List ℕ → List ℕ) (limit c : ℕ) (start o ps l : List ℕ)
     (n : ℕ) : Type 0 where
   pub sets : List ℕ

@@ -18,10 +18,10 @@ use Rattle.theory.proofs.Tests.{by-test}
 use Rattle.theory.proofs.Lists.{most-bound}
 use Rattle.theory.proofs.Coalitions.{exact-values, values-same}
 use Rattle.owners.specs.Owners.{member, number}
-use Rattle.owners.specs.Prices.{row, entry, plain}
+use Rattle.owners.specs.Prices.{row, entry, buyerRows}
 use Rattle.owners.specs.Sales.{sets, lastPrices, limit}
 use Rattle.owners.specs.Quick.{left, rosterIn}
-use Rattle.owners.specs.Singles.{worth, AtMost}
+use Rattle.owners.specs.Singles.{worthTable, AtMost}
 use Rattle.owners.proofs.Quick.{quick-rounds, quick-last, presents-are}
 use Rattle.owners.proofs.Bits.{number-below, number-bit}
 use Rattle.owners.proofs.Singles.{limit-small}
@@ -88,13 +88,13 @@ module _ (m all n : ℕ) (share : ℕ → ℕ) (al : List (List ℕ)) (ws : List
     abbrev chooseBy : List (ℕ → Bool) → List ℕ → ℕ
     chooseBy presents ps =
         lowestBy (record { many = m; low = 1; member = member; sets = 2 ^ m; presents = presents }) shift (at values)
-        (left (plain m) (worth ws) (all - 1) ps)
+        (left (buyerRows m) (worthTable ws) (all - 1) ps)
 
     pub Agrees : List (ℕ → Bool) → Type 0
     Agrees presents =
-        (choices (chooseBy presents) (stepAt m all ws) f start ≡ sets X (plain m) all v start f)
+        (choices (chooseBy presents) (stepAt m all ws) f start ≡ sets X (buyerRows m) all v start f)
         × (after (stepAt m all ws) start (choices (chooseBy presents) (stepAt m all ws) f start)
-        ≡ lastPrices X (plain m) all v start f)
+        ≡ lastPrices X (buyerRows m) all v start f)
 
     found : Values X v al (at values)
     found =
@@ -107,7 +107,7 @@ module _ (m all n : ℕ) (share : ℕ → ℕ) (al : List (List ℕ)) (ws : List
               ∙ ap (holder (market offer) a) (omega arith),
         )))
 
-    wide : limit X (plain m) all v ≤ shift
+    wide : limit X (buyerRows m) all v ≤ shift
     wide = omega (arith, limit-small m (all - 1) few ws small)
 
     agrees : Agrees (rosterIn m l .presents)
@@ -115,8 +115,8 @@ module _ (m all n : ℕ) (share : ℕ → ℕ) (al : List (List ℕ)) (ws : List
     agrees =
         let (setting, worths) = judged-regular offer regular l judged in
         subst Agrees (presents-are al m l) (
-          quick-rounds X (plain m) all m al setting v worths (at values) found shift wide start (own .0) (own .1) f,
-          quick-last X (plain m) all m al setting v worths (at values) found shift wide start (own .0) (own .1) f,
+          quick-rounds X (buyerRows m) all m al setting v worths (at values) found shift wide start (own .0) (own .1) f,
+          quick-last X (buyerRows m) all m al setting v worths (at values) found shift wide start (own .0) (own .1) f,
         )
 
     pub sold-by : {o ps′ o′ : List ℕ} {k : ℕ} →

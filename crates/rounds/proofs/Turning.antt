@@ -9,10 +9,10 @@ use lib.ListN.{length, set}
 use Rattle.theory.specs.Sums.{when}
 use Rattle.theory.specs.Coalitions.{lowestBy}
 use Rattle.owners.specs.Owners.{member}
-use Rattle.owners.specs.Prices.{plain}
+use Rattle.owners.specs.Prices.{buyerRows}
 use Rattle.owners.specs.Quick.{left, raisedBy, rosterIn}
-use Rattle.owners.specs.Singles.{worth, AtMost}
-use Rattle.supply.specs.Supply.{shift, at, owed, Supplied, lowestIn, NextPayoffs, NextGains, NextRevenues}
+use Rattle.owners.specs.Singles.{worthTable, AtMost}
+use Rattle.supply.specs.Supply.{shift, at, payoffAt, Supplied, lowestIn, NextPayoffs, NextGains, NextRevenues}
 use Rattle.supply.proofs.Keeping.{keeps-lowest, keeps-next, gain-small, revenue-small}
 use Rattle.raising.proofs.Rising.{raised-long}
 use Rattle.rounds.specs.Rounds.{lowestAt, stepAt, Tables, Long, KeptAt, Small, TurnAt}
@@ -34,7 +34,7 @@ module _
     (words : List ℕ) (supplied : Supplied m l (k .gains) (k .revenues) words) (x : ℕ)
     (ex : x ≡ lowestIn m l words (k .payoffs)) where
   module _ (values : List ℕ) (kept : KeptAt m l (all - 1) ws values ps k) where
-    by-values : x ≡ lowestBy (rosterIn m l) shift (at values) (owed (k .payoffs))
+    by-values : x ≡ lowestBy (rosterIn m l) shift (at values) (payoffAt (k .payoffs))
     by-values = ex ∙ keeps-lowest m l few values (k .payoffs) (k .gains) (k .revenues) (kept .keeps) words supplied
 
     chosen : x ≡ lowestAt m l (all - 1) ws values ps
@@ -44,7 +44,7 @@ module _
   turn-none o z values kept = (round-none _ _ ps o x (chosen values kept) z, kept)
 
   pub turn-some : (o o′ qs : List ℕ) (k′ : Tables) → (x ≡ 0 → ⊥) → o′ ≡ set o 0 (x - 1) →
-      qs ≡ raisedBy (plain m) all (worth ws) (member (x - 1)) (owed (k .payoffs)) ps → Long k′ →
+      qs ≡ raisedBy (buyerRows m) all (worthTable ws) (member (x - 1)) (payoffAt (k .payoffs)) ps → Long k′ →
       AtMost 9999 (k′ .payoffs) → NextPayoffs m (k .payoffs) (x - 1) (k′ .payoffs) →
       NextGains m (k .gains) (x - 1) (k′ .gains) → NextRevenues m l (k .revenues) words (x - 1) (k′ .revenues) →
       TurnAt m l all ws ps k o qs k′ o′ false
@@ -58,12 +58,12 @@ module _
               fall i lo hi
               ∙ ap (λ n. n - when (member (x - 1) i) 1) (kept .payoffs i lo hi)
               ∙ sym (left-step m all few two short ws (x - 1) ps i lo hi)
-              ∙ ap (λ qs. left (plain 6) (worth ws) (all - 1) qs i) (sym step);
+              ∙ ap (λ qs. left (buyerRows 6) (worthTable ws) (all - 1) qs i) (sym step);
           keeps =
               keeps-next m l few values (k .payoffs) (k .gains) (k .revenues) (kept .keeps) (x - 1)
               (sym (by-values values kept) ∙ one)
               words supplied (k′ .payoffs) (k′ .gains) (k′ .revenues) small fall rise raise;
-          prices = ap length raised ∙ raised-long m all (worth ws) (member (x - 1)) (owed (k .payoffs)) ps;
+          prices = ap length raised ∙ raised-long m all (worthTable ws) (member (x - 1)) (payoffAt (k .payoffs)) ps;
           long = long;
         },
       )

@@ -12,25 +12,26 @@ use Rattle.theory.specs.Lists.{over}
 use Rattle.theory.specs.Coalitions.{lowestBy}
 use Rattle.numbers.specs.Numbers.{Is}
 use Rattle.owners.specs.Owners.{member}
-use Rattle.owners.specs.Prices.{plain, Holds}
+use Rattle.owners.specs.Prices.{buyerRows, Holds}
 use Rattle.owners.specs.Quick.{left, raisedBy, rosterIn}
-use Rattle.owners.specs.Singles.{worth, AtMost}
-use Rattle.offers.specs.Offers.{Offer, market, seats, worthOf}
+use Rattle.owners.specs.Singles.{worthTable, AtMost}
+use Rattle.offers.specs.Offers.{Offer, market, layout, worthOf}
 use Rattle.offers.specs.Rounds.{setsFrom, pricesFrom}
-use Rattle.supply.specs.Supply.{shift, at, owed, Subsets, Keeps, SmallGains, SmallRevenues}
+use Rattle.supply.specs.Supply.{shift, at, payoffAt, Subsets, Keeps, SmallGains, SmallRevenues}
 use Rattle.raising.specs.Raising.{Rows}
 
 -- 1 more than the number of the lowest undersupplied set at the prices ps, by the values; `top` is the bundle of all
 -- lots
 unfoldable pub lowestAt : ℕ → ℕ → ℕ → List ℕ → List ℕ → List ℕ → ℕ
-lowestAt m l top ws values ps = lowestBy (rosterIn m l) shift (at values) (left (plain m) (worth ws) top ps)
+lowestAt m l top ws values ps = lowestBy (rosterIn m l) shift (at values) (left (buyerRows m) (worthTable ws) top ps)
 
 -- the prices after a round that takes the set x, with bundles below `all`
 abbrev pub stepAt : ℕ → ℕ → List ℕ → ℕ → List ℕ → List ℕ
-stepAt m all ws x ps = raisedBy (plain m) all (worth ws) (member x) (left (plain m) (worth ws) (all - 1) ps) ps
+stepAt m all ws x ps =
+    raisedBy (buyerRows m) all (worthTable ws) (member x) (left (buyerRows m) (worthTable ws) (all - 1) ps) ps
 
--- a round, by prices and the rest of the record before and after it: where no set is undersupplied nothing changes, else
--- the set's number is the next byte, and the prices rise
+-- a round, by prices and the rest of the record before and after it: where no set is undersupplied nothing changes,
+-- else the set's number is the next byte, and the prices rise
 pub record Round (choose : List ℕ → ℕ) (step : ℕ → List ℕ → List ℕ) (ps o ps′ o′ : List ℕ)
     (settled : Bool) : Type 0 where
   pub prices : ps′ ≡ pick (eqb (choose ps) 0) ps (step (choose ps - 1) ps)
@@ -54,7 +55,7 @@ pub record Long (k : Tables) : Type 0 where
 
 -- what is kept at the prices ps: payoffs as they are read off the prices, and the others by the values
 pub record KeptAt (m l top : ℕ) (ws values ps : List ℕ) (k : Tables) : Type 0 where
-  pub payoffs : (i : ℕ) → 1 ≤ i → i ≤ m → owed (k .payoffs) i ≡ left (plain 6) (worth ws) top ps i
+  pub payoffs : (i : ℕ) → 1 ≤ i → i ≤ m → payoffAt (k .payoffs) i ≡ left (buyerRows 6) (worthTable ws) top ps i
   pub keeps : Keeps m l values (k .payoffs) (k .gains) (k .revenues)
   pub prices : Rows ps
   pub long : Long k
@@ -96,7 +97,7 @@ pub record Opens (m l all : ℕ) (ws ps : List ℕ) (f : ℕ) (o : List ℕ) : T
 
 -- the prices are those of some payoffs, as in a sale
 abbrev pub Own : Offer → List ℕ → Type 0
-Own O ps = (π : ℕ → ℕ) × Holds (market O) (seats O) (O .bundles) (O .bundles - 1) (worthOf O) ps π
+Own O ps = (π : ℕ → ℕ) × Holds (market O) (layout O) (O .bundles) (O .bundles - 1) (worthOf O) ps π
 
 -- and what they answer: prices and record after them, and how many there were
 pub record Sold (O : Offer) (l : ℕ) (ps : List ℕ) (f : ℕ) (o ps′ o′ : List ℕ) (n : ℕ) : Type 0 where

@@ -17,8 +17,8 @@ fn note(rest: &mut [u8], number: usize)
     rest[0] = number as u8;
 }
 
-// A round, judged in the economies up to that of number `last`, with the rest of the record (rule 4.12): the set's number
-// is its next byte. Where no set is undersupplied nothing changes, and the answer is yes.
+// A round, judged in the economies up to that of number `last`, with the rest of the record (rule 4.12): the set's
+// number is its next byte. Where no set is undersupplied nothing changes, and the answer is yes.
 fn round(
     worths: &[u16],
     subsets: &[u64; 64],

@@ -22,7 +22,7 @@ use Rattle.sheet.specs.Questions.{fault}
 use Rattle.sheet.specs.Answers.{worthsRead}
 use Rattle.reading.proofs.Reading.{read-refused}
 use Rattle.reading.proofs.Told.{sheet-no, sheet-none, sheet-yes, sheet-read}
-use Rattle.offers.specs.Offers.{Offer, lotsAmong, lotsOf, offerOf, seats, worthOf, theAuction}
+use Rattle.offers.specs.Offers.{Offer, lotsAmong, lotsOf, offerOf, layout, worthOf, theAuction}
 use Rattle.offers.specs.Rounds.{roundLimit, startPrices, setsFrom, saleSets, lastPrices}
 use Rattle.offers.specs.Claims.{Regular}
 use Rattle.offers.proofs.Lots.{lots-regular, shape, topped}
@@ -62,7 +62,7 @@ module _ {m n : ℕ} {ws : List ℕ} (sells : Sells m n ws) where
   starts-own =
       let O = lotsAmong m n ws in (
         _,
-        begins (theAuction O) (seats O) (O .bundles) m (O .lists) (sells-regular .hall) (worthOf O)
+        begins (theAuction O) (layout O) (O .bundles) m (O .lists) (sells-regular .setting) (worthOf O)
             (sells-regular .worths),
       )
 
@@ -71,7 +71,8 @@ pub sold-settled : (m n : ℕ) (ws l o ps o′ : List ℕ) (f all k : ℕ) → S
     f ≡ roundLimit (lotsAmong m n ws) →
     ((O : Offer) → Lent O l ws 1 m all → Own O (replicate 96 0) → Sold O m (replicate 96 0) f o ps o′ k) →
     (c : Closing) → ((O : Offer) → Lent O l ws 1 m all → c ≡ saleClosing O ps) →
-    (a : Sale) → a ≡ soldBy m n k ps c → (a ≡ settledSale (lotsAmong m n ws)) × (o′ ≡ over (saleSets (lotsAmong m n ws)) o)
+    (a : Sale) → a ≡ soldBy m n k ps c →
+    (a ≡ settledSale (lotsAmong m n ws)) × (o′ ≡ over (saleSets (lotsAmong m n ws)) o)
 unfolding settledSale startPrices saleSets lastPrices
 sold-settled m n ws l o ps o′ f all k sells words bundles ef sells-so c closes a ea =
     let O = lotsAmong m n ws in
@@ -114,7 +115,8 @@ module _ (b : List ℕ) (r : Worths) (e : r ≡ worthsRead b) (o : List ℕ) whe
     -- l is question 9's sum as it was reckoned
     module _ (l : ℕ) (el : l ≡ limitBy 1 (r .buyers) (2 ^ r .lots) (r .worths)) where
       pub limit-is : l ≡ roundLimit O
-      limit-is = el ∙ limit-found O (lots-packed (r .buyers) (r .lots) (r .worths) (asked .few-buyers) (asked .few-lots))
+      limit-is =
+          el ∙ limit-found O (lots-packed (r .buyers) (r .lots) (r .worths) (asked .few-buyers) (asked .few-lots))
 
       same-limit : l ≡ roundLimit (offerOf b)
       same-limit = limit-is ∙ ap roundLimit same

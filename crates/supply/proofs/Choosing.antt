@@ -24,21 +24,22 @@ use Rattle.numbers.specs.Numbers.{bit}
 use Rattle.owners.specs.Owners.{member, number}
 use Rattle.owners.specs.Quick.{presentIn, roster}
 use Rattle.owners.proofs.Bits.{number-bit, number-down, number-small}
-use Rattle.supply.specs.Supply.{at, owed, Under, reaches, reached, among, Word, Joined, Joins, Supplied}
-use Rattle.supply.specs.Supply.{Keen, lowestIn}
+use Rattle.supply.specs.Supply.{at, payoffAt, Under, reaches, reached, among, Word, Joined, Joins, Supplied}
+use Rattle.supply.specs.Supply.{KeenBuyers, lowestIn}
 use Rattle.supply.proofs.Words.{bit-or, bit-and, bit-ones, bit-zero, among-fewer}
 
 -- what the members of a set have left, with buyer i
 module _
-    (m i k t : ℕ) (ps : List ℕ) (lo : 1 ≤ i) (hi : i ≤ m) (e : t ≡ sum (m - i) (suc i) (only (member k) (owed ps)))
+    (m i k t : ℕ) (ps : List ℕ) (lo : 1 ≤ i) (hi : i ≤ m) (e : t ≡ sum (m - i) (suc i) (only (member k) (payoffAt ps)))
     (b : Bool) (eb : b ≡ member k i) (t′ : ℕ) where
-  more : t + when (member k i) (owed ps i) ≡ sum (m - (i - 1)) (suc (i - 1)) (only (member k) (owed ps))
-  more = sum-down m i t (only (member k) (owed ps)) lo hi e
+  more : t + when (member k i) (payoffAt ps i) ≡ sum (m - (i - 1)) (suc (i - 1)) (only (member k) (payoffAt ps))
+  more = sum-down m i t (only (member k) (payoffAt ps)) lo hi e
 
-  pub pay-in : b ≡ true → t′ ≡ t + getD ps (i - 1) 0 → t′ ≡ sum (m - (i - 1)) (suc (i - 1)) (only (member k) (owed ps))
+  pub pay-in : b ≡ true → t′ ≡ t + getD ps (i - 1) 0 →
+      t′ ≡ sum (m - (i - 1)) (suc (i - 1)) (only (member k) (payoffAt ps))
   pay-in p et = let q : member k i ≡ true = sym eb ∙ p in rw et (rw q at more)
 
-  pub pay-out : b ≡ false → t′ ≡ t → t′ ≡ sum (m - (i - 1)) (suc (i - 1)) (only (member k) (owed ps))
+  pub pay-out : b ≡ false → t′ ≡ t → t′ ≡ sum (m - (i - 1)) (suc (i - 1)) (only (member k) (payoffAt ps))
   pay-out p et = let q : member k i ≡ false = sym eb ∙ p in omega (arith, rw q at more)
 
 -- the greatest gain in economy e, with set k
@@ -167,17 +168,17 @@ every-more n word s word′ x es e = rw (e, bit-and n word s, es)
 
 -- the set of the keen buyers, with buyer i
 abbrev pub keen : List ℕ → ℕ → Bool
-keen ps i = leb 1 (owed ps i)
+keen ps i = leb 1 (payoffAt ps i)
 
 module _ (m i set : ℕ) (ps : List ℕ) (lo : 1 ≤ i) (hi : i ≤ m) (e : set ≡ number (m - i) (suc i) (keen ps))
     (set′ : ℕ) where
-  pub keen-in : 1 ≤ owed ps i → set′ ≡ 2 * set + 1 → set′ ≡ number (m - (i - 1)) (suc (i - 1)) (keen ps)
-  keen-in h es = omega (arith, rw (le-leb 1 (owed ps i) h) at (number-down m i set (keen ps) lo hi e))
+  pub keen-in : 1 ≤ payoffAt ps i → set′ ≡ 2 * set + 1 → set′ ≡ number (m - (i - 1)) (suc (i - 1)) (keen ps)
+  keen-in h es = omega (arith, rw (le-leb 1 (payoffAt ps i) h) at (number-down m i set (keen ps) lo hi e))
 
-  pub keen-out : owed ps i < 1 → set′ ≡ 2 * set → set′ ≡ number (m - (i - 1)) (suc (i - 1)) (keen ps)
-  keen-out h es = omega (arith, rw (lt-leb 1 (owed ps i) h) at (number-down m i set (keen ps) lo hi e))
+  pub keen-out : payoffAt ps i < 1 → set′ ≡ 2 * set → set′ ≡ number (m - (i - 1)) (suc (i - 1)) (keen ps)
+  keen-out h es = omega (arith, rw (lt-leb 1 (payoffAt ps i) h) at (number-down m i set (keen ps) lo hi e))
 
-pub keen-all : (m i r : ℕ) (ps : List ℕ) → m ≤ 6 → i ≡ 0 → r ≡ number (m - i) (suc i) (keen ps) → Keen m ps r
+pub keen-all : (m i r : ℕ) (ps : List ℕ) → m ≤ 6 → i ≡ 0 → r ≡ number (m - i) (suc i) (keen ps) → KeenBuyers m ps r
 keen-all m i r ps few z e =
     let d : m - i ≡ m = omega arith in
     let all : r ≡ number m 1 (keen ps) = e ∙ rw (d, z) in
@@ -200,7 +201,7 @@ not-second true b p = rw p
 not-second false b p = refl
 
 -- the lowest set by words
-pub words-lowest : (m last : ℕ) (words ps : List ℕ) (sets k w all r : ℕ) → m ≤ 6 → sets ≡ 2 ^ m → Keen m ps k →
+pub words-lowest : (m last : ℕ) (words ps : List ℕ) (sets k w all r : ℕ) → m ≤ 6 → sets ≡ 2 ^ m → KeenBuyers m ps k →
     Word 6 (among 6 k) w →
     Word 6 (λ n. every (last + 1) 0 (λ e. bit n (at words e))) all →
     r ≡ least sets 0 (λ n. bit n w && not (bit n all)) → r ≡ lowestIn m last words ps
@@ -209,8 +210,8 @@ words-lowest m last words ps sets k w all r few es keen kw aw er =
     least-same (2 ^ m) 0 _ _ (λ n h.
     let l : n < 2 ^ m = omega arith in
     let low : n < 64 = omega (arith, pow-mono {i = m} {j = 6} few) in
-    let a : bit n w ≡ every m 1 (λ i. member n i ⊃ leb 1 (owed ps i)) =
+    let a : bit n w ≡ every m 1 (λ i. member n i ⊃ leb 1 (payoffAt ps i)) =
     kw n low ∙ among-fewer m k n few l ∙
-    every-same m 1 (λ i. member n i ⊃ member k i) (λ i. member n i ⊃ leb 1 (owed ps i))
+    every-same m 1 (λ i. member n i ⊃ member k i) (λ i. member n i ⊃ leb 1 (payoffAt ps i))
     (λ i q. rw (keen .is i (omega arith) (omega arith))) in
     rw (a, aw n low))

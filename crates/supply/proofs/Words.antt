@@ -114,10 +114,10 @@ bit-high m n j h l =
     let z : n / 2 ^ j ≡ 0 = div-eq-of-lt (omega (arith, pow-mono {i = m} {j = j} l)) in
     rw z refl
 
-abbrev Beneath : ℕ → ℕ → ℕ → Type 0
-Beneath m k n = (i : ℕ) → Among m 1 i → bit (i - 1) n ≡ true → bit (i - 1) k ≡ true
+abbrev Subset : ℕ → ℕ → ℕ → Type 0
+Subset m k n = (i : ℕ) → Among m 1 i → bit (i - 1) n ≡ true → bit (i - 1) k ≡ true
 
-among-means : (m k n : ℕ) → Means (among m k n) (Beneath m k n)
+among-means : (m k n : ℕ) → Means (among m k n) (Subset m k n)
 among-means m k n = every-means m 1 (λ i r. imp-means (itself (bit (i - 1) n)) (itself (bit (i - 1) k)))
 
 pub among-fewer : (m k n : ℕ) → m ≤ 6 → n < 2 ^ m → among 6 k n ≡ among m k n
@@ -126,7 +126,7 @@ among-fewer m k n few h =
     (λ p. among-means m k n .1 (λ i r. among-means 6 k n .0 p i (omega arith)))
     (λ p. among-means 6 k n .1 (λ i r q. by-among m k n h (among-means m k n .0 p) i (r .0) q))
   where
-    by-among : (m k n : ℕ) → n < 2 ^ m → Beneath m k n → (i : ℕ) → 1 ≤ i → bit (i - 1) n ≡ true → bit (i - 1) k ≡ true
+    by-among : (m k n : ℕ) → n < 2 ^ m → Subset m k n → (i : ℕ) → 1 ≤ i → bit (i - 1) n ≡ true → bit (i - 1) k ≡ true
     by-among m k n h f i lo q =
         elim (decLe i m) [
           | yes l ↦ f i (omega arith) q

@@ -10,8 +10,8 @@ ghost use Rattle.numbers.specs.Numbers.{Is, bit};
 ghost use Rattle.owners.specs.Owners.{member};
 ghost use Rattle.owners.specs.Quick.{presentIn, roster};
 ghost use Rattle.owners.specs.Singles.{AtMost};
-ghost use Rattle.supply.specs.Supply.{at, owed, Gains, greatest, Revenues, Under, Subsets, Joins, Supplied};
-ghost use Rattle.supply.specs.Supply.{Word, Keen, lowestIn};
+ghost use Rattle.supply.specs.Supply.{at, payoffAt, Gains, greatest, Revenues, Under, Subsets, Joins, Supplied};
+ghost use Rattle.supply.specs.Supply.{Word, KeenBuyers, lowestIn};
 use numbers::has;
 use numbers::power;
 
@@ -37,7 +37,7 @@ pub fn is_member(set: usize, i: usize) -> bool
 // What the members of the set k have left.
 fn payoff_of(payoffs: &[u32; 6], buyers: usize, k: usize) -> u32
     requires { ⌜ (buyers ≤ 6) × AtMost 9999 (now payoffs) ⌝ }
-    ensures { λ r. ⌜ Is (payoffOf (roster buyers) (owed (now (payoffs .entry))) k) r 59994 ⌝ }
+    ensures { λ r. ⌜ Is (payoffOf (roster buyers) (payoffAt (now (payoffs .entry))) k) r 59994 ⌝ }
 {
     let mut total: u32 = 0;
     let mut i: usize = buyers;
@@ -283,7 +283,7 @@ fn everywhere(words: &[u64; 7], last: usize) -> u64
 // The set of all keen buyers: those that have something left.
 fn keen_set(payoffs: &[u32; 6], buyers: usize) -> usize
     requires { ⌜ buyers ≤ 6 ⌝ }
-    ensures { λ r. ⌜ Keen buyers (now (payoffs .entry)) r ⌝ }
+    ensures { λ r. ⌜ KeenBuyers buyers (now (payoffs .entry)) r ⌝ }
 {
     let mut set: usize = 0;
     let mut i: usize = buyers;

@@ -1,4 +1,4 @@
--- What stands in a table: for a buyer it is the price of the plain seats (`entry-plain`), and a bidder's row is one of
+-- What stands in a table: for a buyer it is the price of the buyers' rows (`entry-price`), and a bidder's row is one of
 -- the table's (`row-fits`), of which buyers have six (`buyers-fit`).
 use mathlib.Core.Path.{_≡_}
 use mathlib.Core.List.{List}
@@ -7,11 +7,11 @@ use native.Mathlib.Omega.{arith}
 use lib.Dec.{eqb}
 use borrow.Author.Tests.{eqb-true, eqb-false}
 use Rattle.theory.proofs.Tests.{by-test}
-use Rattle.owners.specs.Prices.{rows, row, entry, plain, price}
-use Rattle.owners.proofs.Prices.{entry-seat}
+use Rattle.owners.specs.Prices.{rows, row, entry, buyerRows, price}
+use Rattle.owners.proofs.Prices.{entry-row}
 
-pub entry-plain : (t : List ℕ) (i s : ℕ) → 1 ≤ i → entry t i s ≡ price (plain 6) t i s
-entry-plain t i s h = entry-seat 1 6 i h t s
+pub entry-price : (t : List ℕ) (i s : ℕ) → 1 ≤ i → entry t i s ≡ price (buyerRows 6) t i s
+entry-price t i s h = entry-row 1 6 i h t s
 
 -- bidders go from `low` on
 pub row-fits : (low i L : ℕ) → low ≤ i → i ≤ 6 → 16 * rows low ≤ L → 16 * row i + 16 ≤ L

@@ -10,8 +10,8 @@ use Prim.Native.Nat.{ℕ, suc, _+_}
 use native.Mathlib.Omega.{arith}
 use Rattle.theory.specs.Lists.{_∈_, most}
 use Rattle.theory.specs.Markets.{Market, Table, Bidder, total, Equilibrium, Fits, only, asks}
-use Rattle.theory.specs.Auction.{Economy, Quote, fits, serves, closes, supplied, undersupplied, lowest, Numbered}
-use Rattle.theory.specs.Auction.{Ranked, Minimal, Truthful, Absent, own}
+use Rattle.theory.specs.Auction.{Economy, Quote, fits, serves, closes, supplied, undersupplied, lowest}
+use Rattle.theory.specs.Auction.{SetsNumbered, Ranked, Minimal, Truthful, Absent, own}
 use Rattle.theory.proofs.Tests.{Means, means-via, itself, eqb-means, leb-means, and-means, or-means, imp-means}
 use Rattle.theory.proofs.Tests.{not-means, every-means, some-means, by-test, fails, Least, least-none}
 use Rattle.theory.proofs.Tests.{least-found}
@@ -98,7 +98,7 @@ module _ {A : Type 0} (M : Market A) (q : Quote) where
         }
 
     -- nothing is undersupplied exactly if each economy supplies its keen bidders
-    pub settled-iff : Numbered M member sets →
+    pub settled-iff : SetsNumbered M member sets →
         (lowest M member sets es q ≡ 0) ↔ ((e : Economy A) → e ∈ es → supplied M q (q .keen) e ≡ true)
     settled-iff numbered = (
       λ h e m. by-test (supplied M q (q .keen) e) (λ p. p) (λ p.

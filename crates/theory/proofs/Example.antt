@@ -13,7 +13,7 @@ use Rattle.theory.specs.Rounds.{choices, after}
 use Rattle.theory.specs.Markets.{Market, Table, worthPay, discount, pricePay, asks}
 use Rattle.theory.specs.Auction.{whole, lacking, Quote, closing, direct, own, Auction, chosen, start, round}
 use Rattle.theory.specs.Auction.{rounds}
-use Rattle.theory.specs.Coalitions.{worthOf, rosterOf, lowestBy}
+use Rattle.theory.specs.Coalitions.{coalitionValue, rosterOf, lowestBy}
 
 abbrev Owners : Type 0
 Owners = ℕ × ℕ
@@ -77,7 +77,7 @@ example-direct-pays = refl
 abbrev values : List ℕ
 values = 0 ∷ 3 ∷ 6 ∷ 9 ∷ 4 ∷ 5 ∷ 6 ∷ 9 ∷ []
 
-example-values : tabulate 8 0 (λ n. worthOf market worths all (auction .member n)) ≡ values
+example-values : tabulate 8 0 (λ n. coalitionValue market worths all (auction .member n)) ≡ values
 example-values = refl
 
 example-rounds-by :

@@ -14,7 +14,7 @@ use borrow.Author.Tests.{eq-eqb, ne-eqb, not-false}
 use Rattle.theory.specs.Sums.{when, sum, Among}
 use Rattle.theory.specs.Lists.{_∈_, most, upTo}
 use Rattle.theory.specs.Tests.{_⊃_, every, some}
-use Rattle.theory.specs.Markets.{Market, Table, sumOf, total, only, asks, lower, without}
+use Rattle.theory.specs.Markets.{Market, Table, sumOf, total, only, asks, lower, otherThan}
 use Rattle.theory.specs.Auction.{Economy, supplied, own, Auction, Ready, Proper, Ranked, Modest, chosen, round}
 use Rattle.theory.specs.Coalitions.{Part, Values, Roster, rosterOf, payoffOf, inside, covers}
 use Rattle.theory.specs.Coalitions.{gain, revenue, suppliedBy, lowestBy}
@@ -137,7 +137,7 @@ module _
 
     -- a set that has all members present but i, and gains the revenue
     pub revenue-short : suppliedBy R shift value π x present ≡ false → (i : ℕ) → Among (R .many) (R .low) i → (y : ℕ) →
-        ((j : ℕ) → Among (R .many) (R .low) j → R .member y j ≡ (R .member x j && without i j)) →
+        ((j : ℕ) → Among (R .many) (R .low) j → R .member y j ≡ (R .member x j && otherThan i j)) →
         suppliedBy R shift value π y present ≡ true →
         revenue R shift value next present + 1 ≡ before + around R present x
     revenue-short f i r y same s =
@@ -156,7 +156,7 @@ module _
               let (a, b) = present-means R present x j .0 p in
               has j q (
                 a,
-                same j q ∙ and-means (itself (R .member x j)) (itself (without i j)) .1
+                same j q ∙ and-means (itself (R .member x j)) (itself (otherThan i j)) .1
                     (b, ap not (ne-eqb j i z)),
               )),
         ) in
@@ -177,12 +177,12 @@ module _
       every (R .many) (R .low) (λ i. R .member n i ⊃ leb 1 (π i))
       && some (λ present. not (suppliedBy R shift value π n present)) (R .presents)
 
-  abbrev Keens : ℕ → Type 0
-  Keens n = (i : ℕ) → Among (R .many) (R .low) i → R .member n i ≡ true → 1 ≤ π i
+  abbrev KeenMembers : ℕ → Type 0
+  KeenMembers n = (i : ℕ) → Among (R .many) (R .low) i → R .member n i ≡ true → 1 ≤ π i
 
   Lacks : ℕ → Type 0
   Lacks n =
-      Keens n × ((p : ℕ → Bool) × (p ∈ R .presents) × (suppliedBy R shift value π n p ≡ true → ⊥))
+      KeenMembers n × ((p : ℕ → Bool) × (p ∈ R .presents) × (suppliedBy R shift value π n p ≡ true → ⊥))
 
   lacking-means : (n : ℕ) → Means (lacking n) (Lacks n)
   unfolding Lacks
@@ -194,13 +194,13 @@ module _
   lowest-is : Least (R .sets) 0 lacking x
   lowest-is = least-found (R .sets) 0 lacking x chosen
 
-  pub lowest-keen : Keens x
+  pub lowest-keen : KeenMembers x
   unfolding Lacks
   lowest-keen = lacking-means x .0 (lowest-is .passes) .0
 
   module _ (present : ℕ → Bool) (among : present ∈ R .presents) where
     -- a lower set of keen bidders is supplied
-    lower-supplied : (y : ℕ) → y < x → Keens y → suppliedBy R shift value π y present ≡ true
+    lower-supplied : (y : ℕ) → y < x → KeenMembers y → suppliedBy R shift value π y present ≡ true
     unfolding Lacks
     lower-supplied y l keen =
         by-test (suppliedBy R shift value π y present)
@@ -213,17 +213,17 @@ module _
         suppliedBy R shift value π x present ≡ true
     nobody-supplied nobody =
         let (z, l, empty) = ranks .none in
-        let worth : ℕ → ℕ = λ n. when (inside R present n) (gain R shift value π n) in
+        let gainIn : ℕ → ℕ = λ n. when (inside R present n) (gain R shift value π n) in
         let zero = upTo-in (R .sets) 0 {i = z} (omega arith) in
         let within : inside R present z ≡ true =
         inside-means R present z .1 (λ i r p. fails p (empty i r)) in
-        let (n, m, e) = most-reached worth zero in
+        let (n, m, e) = most-reached gainIn zero in
         let has : (k : ℕ) → Has R present x k = λ k i r p. absurd (nobody i r p) in
         supplied-by-means R present shift value π x .1 (by-test (inside R present n)
         (λ p. (n, m, (p, (has n, rw p at e))))
         (λ p.
         let least : 0 ≡ revenue R shift value π present = rw p at e in
-        (z, zero, (within, (has z, omega (arith, rw within at (most-upper worth zero)))))))
+        (z, zero, (within, (has z, omega (arith, rw within at (most-upper gainIn zero)))))))
 
     pub kept-revenues :
         revenue R shift value (lower (R .member x) π) present + when (not (suppliedBy R shift value π x present)) 1
@@ -244,7 +244,7 @@ module _
             let (i, r, w) = every-fails (R .many) (R .low) (λ i. not (present i && R .member x i)) q in
             let (_, has) = present-means R present x i .0 (not-false _ w) in
             let (y, l, same) = ranks .fewer x i r has in
-            let keen : Keens y =
+            let keen : KeenMembers y =
             λ j u h. lowest-keen j u (and-means (itself (R .member x j)) (itself _) .0 (sym (same j u) ∙ h) .0) in
             revenue-short R shift value π wide x lowest-keen present p i r y same (lower-supplied y l keen))
 
@@ -254,11 +254,11 @@ ranked-ranks X ranked =
     record {
       none = let (z, l, same, _) = ranked (λ _. false) in (z, l, same);
       fewer = λ x i r has.
-          let part : ℕ → Bool = λ j. X .member x j && without i j in
+          let part : ℕ → Bool = λ j. X .member x j && otherThan i j in
           let (y, _, same, under) = ranked part in (
             y,
             under x (record {
-              inside = λ j q p. and-means (itself (X .member x j)) (itself (without i j)) .0 p .0;
+              inside = λ j q p. and-means (itself (X .member x j)) (itself (otherThan i j)) .0 p .0;
               short = (i, r, has, rw (has, eq-eqb i i refl));
             }),
             same,

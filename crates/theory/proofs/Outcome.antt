@@ -7,7 +7,7 @@ use mathlib.Core.List.{List}
 use Prim.Native.Nat.{ℕ, _+_, _≤_}
 use Rattle.theory.specs.Lists.{_∈_}
 use Rattle.theory.specs.Markets.{Market, Table, Bidder, Pays, Exact, worthPay, pricePay}
-use Rattle.theory.specs.Auction.{Quote, whole, closing, direct, Auction, Proper, Leaving, Buyer, Settlement}
+use Rattle.theory.specs.Auction.{Quote, whole, closing, direct, Auction, Proper, Leaving, Marginal, Settlement}
 use Rattle.theory.proofs.Payments.{pays-some}
 use Rattle.theory.proofs.NoGain.{no-gain}
 use Rattle.theory.proofs.Settled.{direct-in, direct-efficient, settled-owners, settled-payment, settled-exact}
@@ -27,7 +27,7 @@ module _ {A : Type 0} (X : Auction A) (al : List A) {a : A} (m : a ∈ al) (d : 
     pub same-owners : owners q ≡ directOwners v
     same-owners = settled-owners X v b q at al all d
 
-    module _ (i : ℕ) (al-i : List A) (buyer : Buyer X al i al-i) where
+    module _ (i : ℕ) (al-i : List A) (buyer : Marginal X al i al-i) where
       pub same-payment : pricePay M (q .prices) i al al-i (owners q) ≡ worthPay M v i al al-i (directOwners v)
       same-payment =
           rw same-owners
@@ -59,7 +59,7 @@ module _ {A : Type 0} (X : Auction A) (al : List A) {a : A} (m : a ∈ al) (d : 
         (direct-pays i al-i leaving v proper) (direct-pays i al-i leaving w proper′)
 
     -- two sales, each at settled prices of its own
-    pub no-gain-settled : whole al ∈ X .economies → Buyer X al i al-i →
+    pub no-gain-settled : whole al ∈ X .economies → Marginal X al i al-i →
         (b b′ : ℕ → ℕ) (q q′ : Quote) → Settlement X v b q → Settlement X w b′ q′ →
         v i (M .holds (owners q′) i) + pricePay M (q .prices) i al al-i (owners q) ≤
         v i (M .holds (owners q) i) + pricePay M (q′ .prices) i al al-i (owners q′)

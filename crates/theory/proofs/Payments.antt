@@ -9,35 +9,35 @@ use native.Mathlib.Omega.{arith}
 use borrow.Author.Tests.{eq-eqb, ne-eqb}
 use Rattle.theory.specs.Lists.{_∈_, most}
 use Rattle.theory.specs.Markets.{Market, Table, Bidder, sumOf, total, Efficient, Covered, Equilibrium, Pays}
-use Rattle.theory.specs.Markets.{worthPay, discount, pricePay, Monotone, Leaves, without, only}
+use Rattle.theory.specs.Markets.{worthPay, discount, pricePay, Monotone, Leaves, otherThan, only}
 use Rattle.theory.proofs.Sums.{sum-but, sum-swap}
 use Rattle.theory.proofs.Lists.{most-upper, most-subset}
 use Rattle.theory.proofs.Duality.{duality}
 
-only-without : (i : ℕ) (b : ℕ → ℕ) → only (without i) b i ≡ 0
+only-without : (i : ℕ) (b : ℕ → ℕ) → only (otherThan i) b i ≡ 0
 only-without i b = rw (eq-eqb i i refl)
 
-only-other : (i : ℕ) (b : ℕ → ℕ) (j : ℕ) → j ≢ i → only (without i) b j ≡ b j
+only-other : (i : ℕ) (b : ℕ → ℕ) (j : ℕ) → j ≢ i → only (otherThan i) b j ≡ b j
 only-other i b j n = rw (ne-eqb j i n)
 
 module _ {A : Type 0} (M : Market A) (i : ℕ) (bidder : Bidder M i) where
-  pub sum-without : (b : ℕ → ℕ) → sumOf M (only (without i) b) + b i ≡ sumOf M b
+  pub sum-without : (b : ℕ → ℕ) → sumOf M (only (otherThan i) b) + b i ≡ sumOf M b
   sum-without b =
       omega (
         arith,
         only-without i b,
-        sum-swap (M .many) (M .low) (only (without i) b) b i bidder (λ j q n. only-other i b j n),
+        sum-swap (M .many) (M .low) (only (otherThan i) b) b i bidder (λ j q n. only-other i b j n),
       )
 
   module _ (al al-i : List A) where
     -- theorem 1
     pub pays-alike : (v p : Table) (b : ℕ → ℕ) {x y : A} →
         Covered M v p b al → x ∈ al → Equilibrium M v p b al x →
-        Covered M v p (only (without i) b) al-i → y ∈ al-i → Equilibrium M v p (only (without i) b) al-i y →
+        Covered M v p (only (otherThan i) b) al-i → y ∈ al-i → Equilibrium M v p (only (otherThan i) b) al-i y →
         (n : ℕ) → Pays M p i al al-i x n ↔ Pays M v i al al-i x n
     pays-alike v p b c m q c-i m-i q-i n =
         let d = duality M v p b al c m q in
-        let d-i = duality M v p (only (without i) b) al-i c-i m-i q-i in
+        let d-i = duality M v p (only (otherThan i) b) al-i c-i m-i q-i in
         let s = sum-without b in
         let e = q .serves i bidder in
         (λ h. omega arith, λ h. omega arith)

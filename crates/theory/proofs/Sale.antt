@@ -11,7 +11,7 @@ use Rattle.theory.specs.Sums.{when}
 use Rattle.theory.specs.Lists.{_∈_, sumOver}
 use Rattle.theory.specs.Markets.{Market, Table, Bidder, sumOf, Fits, asks}
 use Rattle.theory.specs.Auction.{Economy, everyone, undersupplied, Truthful, own, Auction, Ready, Proper, Modest}
-use Rattle.theory.specs.Auction.{Settled, chosen, round, rounds, last, size}
+use Rattle.theory.specs.Auction.{SettledAt, chosen, round, rounds, last, size}
 use Rattle.theory.proofs.Tests.{by-test, fails, itself, and-means, not-means, leb-means, every-means}
 use Rattle.theory.proofs.Tests.{every-fails}
 use Rattle.theory.proofs.Sums.{sum-part}
@@ -84,7 +84,7 @@ module _ {A : Type 0} (X : Auction A) (ready : Ready X) (v : Table) (proper : Pr
 
   -- at most f rounds from modest payoffs on
   module _ (π : ℕ → ℕ) (modest : Modest X v π) (f : ℕ) where
-    pub sale-settles : sumOf M π ≤ f → Settled X v (last X v π f)
+    pub sale-settles : sumOf M π ≤ f → SettledAt X v (last X v π f)
     sale-settles room = choices-settle choose (round X) (Modest X v) stays (sumOf M) (size X) falls f π modest room
 
     pub sale-few : length (rounds X v π f) ≤ sumOf M π

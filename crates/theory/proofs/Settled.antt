@@ -12,7 +12,7 @@ use Rattle.theory.specs.Lists.{_∈_, most, Ordered}
 use Rattle.theory.specs.Markets.{Market, Table, Bidder, total, Efficient, Covered, Equilibrium, Pays, Exact}
 use Rattle.theory.specs.Markets.{worthPay, pricePay, only}
 use Rattle.theory.specs.Auction.{Economy, whole, lacking, Quote, closes, closing, direct, Truthful, Absent}
-use Rattle.theory.specs.Auction.{Auction, Buyer, Settlement}
+use Rattle.theory.specs.Auction.{Auction, Marginal, Settlement}
 use Rattle.theory.proofs.Tests.{by-test, eqb-means, same-test, fails}
 use Rattle.theory.proofs.Lists.{most-reached, first-same, first-in, first-passes, first-before}
 use Rattle.theory.proofs.Duality.{efficient-equilibrium}
@@ -78,7 +78,7 @@ module _ {A : Type 0} (X : Auction A) (v : Table) (b : ℕ → ℕ) (q : Quote) 
 
     -- what i pays for its part of an efficient allocation, by prices or by worths
     module _
-        (i : ℕ) (al-i : List A) (buyer : Buyer X al i al-i)
+        (i : ℕ) (al-i : List A) (buyer : Marginal X al i al-i)
         {x : A} (m : x ∈ al) (best : Efficient M v al x) where
       abbrev bidder : Bidder M i
       bidder = buyer .leaving .bidder

@@ -9,8 +9,8 @@ use Prim.Native.Nat.{ℕ}
 use native.Mathlib.Omega.{arith}
 use Rattle.theory.specs.Lists.{_∈_}
 use Rattle.theory.specs.Markets.{Market, Table, total, Equilibrium, only}
-use Rattle.theory.specs.Auction.{Economy, Quote, whole, fits, serves, closes, supplied, lowest, closing, Numbered}
-use Rattle.theory.specs.Auction.{Truthful, Absent}
+use Rattle.theory.specs.Auction.{Economy, Quote, whole, fits, serves, closes, supplied, lowest, closing}
+use Rattle.theory.specs.Auction.{SetsNumbered, Truthful, Absent}
 use Rattle.theory.specs.Universal.{Competitive, Universal, Answers, Bundled}
 use Rattle.theory.proofs.Tests.{Means, means-via, itself, and-means, some-means, by-test, fails}
 use Rattle.theory.proofs.Lists.{most-upper, most-is, first-in, first-passes}
@@ -71,7 +71,7 @@ module _
             (closes-equilibrium M v b q al truthful m′ (λ _. true) (absent (closing M q al d) m′) .0 e′),
       )
 
-  pub settled-universal : (es : List (Economy A)) (member : ℕ → ℕ → Bool) (sets : ℕ) → Numbered M member sets →
+  pub settled-universal : (es : List (Economy A)) (member : ℕ → ℕ → Bool) (sets : ℕ) → SetsNumbered M member sets →
       ((e : Economy A) → e ∈ es → Bundled M bundle (e .lists)) → ((e : Economy A) → e ∈ es → Absent M e) →
       (lowest M member sets es q ≡ 0) ↔ Universal M bundle v (q .prices) es
   settled-universal es member sets numbered held absent =

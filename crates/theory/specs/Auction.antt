@@ -1,5 +1,5 @@
 -- The auction: its tests at any prices (`fits`, `supplied`, `undersupplied`, `lowest`), the closing and the direct way;
--- `Auction`, with what its theorems ask for (`Ready`, `Proper`, `Buyer`, `Settlement`); and the sale by payoffs
+-- `Auction`, with what its theorems ask for (`Ready`, `Proper`, `Marginal`, `Settlement`); and the sale by payoffs
 -- (`start`, `round`, `rounds`, `last`).
 use mathlib.Core.Path.{_≡_}
 use mathlib.Core.Logic.{_↔_}
@@ -11,7 +11,7 @@ use Rattle.theory.specs.Sums.{when}
 use Rattle.theory.specs.Lists.{_∈_, most, first}
 use Rattle.theory.specs.Tests.{_⊃_, every, some, least}
 use Rattle.theory.specs.Markets.{Market, Table, Bidder, total, Covered, Monotone, Leaves, Drops, asks, lower}
-use Rattle.theory.specs.Markets.{without, sumOf}
+use Rattle.theory.specs.Markets.{otherThan, sumOf}
 use Rattle.theory.specs.Rounds.{choices, after}
 
 -- allocations among some of the bidders
@@ -24,7 +24,7 @@ abbrev pub whole : {A : Type 0} → List A → Economy A
 whole al = record { lists = al; present = λ _. true }
 
 abbrev pub lacking : {A : Type 0} → ℕ → List A → Economy A
-lacking i al = record { lists = al; present = without i }
+lacking i al = record { lists = al; present = otherThan i }
 
 -- prices, with each bidder's answers: whether it demands a bundle (the demand correspondence), and whether it is keen,
 -- that is, its payoff is positive (B⁺)
@@ -71,11 +71,11 @@ module _ {A : Type 0} (M : Market A) where
   direct v al d = first (λ a. eqb (total M v a) (most (total M v) al)) d al
 
   -- each set of bidders has a number below `sets`
-  abbrev pub Numbered : (ℕ → ℕ → Bool) → ℕ → Type 0
-  Numbered member sets = (t : ℕ → Bool) → (n : ℕ) × (n < sets) × ((i : ℕ) → Bidder M i → member n i ≡ t i)
+  abbrev pub SetsNumbered : (ℕ → ℕ → Bool) → ℕ → Type 0
+  SetsNumbered member sets = (t : ℕ → Bool) → (n : ℕ) × (n < sets) × ((i : ℕ) → Bidder M i → member n i ≡ t i)
 
   -- a proper subset
-  pub record Beneath (part set : ℕ → Bool) : Type 0 where
+  pub record ProperSubset (part set : ℕ → Bool) : Type 0 where
     pub inside : (i : ℕ) → Bidder M i → part i ≡ true → set i ≡ true
     pub short : (i : ℕ) × Bidder M i × (set i ≡ true) × (part i ≡ false)
 
@@ -84,13 +84,13 @@ module _ {A : Type 0} (M : Market A) where
   Ranked member sets = (t : ℕ → Bool) →
       (n : ℕ) × (n < sets) ×
       ((i : ℕ) → Bidder M i → member n i ≡ t i) ×
-      ((k : ℕ) → Beneath t (member k) → n < k)
+      ((k : ℕ) → ProperSubset t (member k) → n < k)
 
   -- a minimally undersupplied set: no proper subset of it is undersupplied. Where there is universal overdemand, as in
   -- every round of a sale, this is definition 11
   pub record Minimal (q : Quote) (es : List (Economy A)) (set : ℕ → Bool) : Type 0 where
     pub undersupply : undersupplied q es set ≡ true
-    pub least : (part : ℕ → Bool) → Beneath part set → undersupplied q es part ≡ false
+    pub least : (part : ℕ → Bool) → ProperSubset part set → undersupplied q es part ≡ false
 
   -- the quote's answers are those of bidders with worths v and payoffs b, for what is held in some allocations
   pub record Truthful (v : Table) (b : ℕ → ℕ) (al : List A) (q : Quote) : Type 0 where
@@ -140,7 +140,7 @@ module _ {A : Type 0} (X : Auction A) where
   -- what a sale asks of the auction, and of the worths
   pub record Ready : Type 0 where
     pub sound : (e : Economy A) → e ∈ X .economies → Sound (X .market) (X .within) (X .top) e
-    pub numbered : Numbered (X .market) (X .member) (X .sets)
+    pub numbered : SetsNumbered (X .market) (X .member) (X .sets)
 
   pub record Proper (v : Table) : Type 0 where
     pub monotone : Monotone (X .market) (X .within) v
@@ -153,7 +153,7 @@ module _ {A : Type 0} (X : Auction A) where
     pub fewer : (a : A) → a ∈ al-i → a ∈ al
 
   -- and has an economy without it
-  pub record Buyer (al : List A) (i : ℕ) (al-i : List A) : Type 0 where
+  pub record Marginal (al : List A) (i : ℕ) (al-i : List A) : Type 0 where
     pub leaving : Leaving al i al-i
     pub others : lacking i al-i ∈ X .economies
 
@@ -186,8 +186,8 @@ module _ {A : Type 0} (X : Auction A) where
   last v π f = after round π (rounds v π f)
 
   -- no set is undersupplied: the prices are a UCE
-  abbrev pub Settled : Table → (ℕ → ℕ) → Type 0
-  Settled v π = chosen (own v π) ≡ 0
+  abbrev pub SettledAt : Table → (ℕ → ℕ) → Type 0
+  SettledAt v π = chosen (own v π) ≡ 0
 
   -- how many bidders a set has
   abbrev pub size : ℕ → ℕ

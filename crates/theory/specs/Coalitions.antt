@@ -1,7 +1,7 @@
 -- At a sale's own prices the rounds need one number for each set of bidders, a greatest total of what only they hold.
--- Offers `worthOf`, the record `Values` of such numbers, and `lowestBy`, the lowest undersupplied set by them, which
--- asks no more of an auction than its `Roster`. Differences are kept `shift` higher, so that none is negative where the
--- payoffs come to at most `shift`.
+-- Offers `coalitionValue`, the record `Values` of such numbers, and `lowestBy`, the lowest undersupplied set by them,
+-- which asks no more of an auction than its `Roster`. Differences are kept `shift` higher, so that none is negative
+-- where the payoffs come to at most `shift`.
 use mathlib.Core.Path.{_≡_}
 use mathlib.Core.Logic.{_⊎_}
 use mathlib.Core.Bool.{Bool, false, not, _&&_, _||_}
@@ -27,8 +27,8 @@ module _ {A : Type 0} (M : Market A) where
   heldBy set a = everyone M (λ i. set i || eqb (M .holds a i) 0)
 
   -- the coalitional value function: the greatest total of the allocations that a set of bidders holds
-  abbrev pub worthOf : Table → List A → (ℕ → Bool) → ℕ
-  worthOf v al set = most (λ a. when (heldBy set a) (total M v a)) al
+  abbrev pub coalitionValue : Table → List A → (ℕ → Bool) → ℕ
+  coalitionValue v al set = most (λ a. when (heldBy set a) (total M v a)) al
 
   -- an economy's allocations are those of all that nobody absent has a part in
   pub record Part (al : List A) (e : Economy A) : Type 0 where

@@ -4,7 +4,7 @@ use mathlib.Core.Path.{_≡_}
 use mathlib.Core.Bool.{Bool, true, false, _&&_}
 use Prim.Native.Nat.{ℕ, _<_}
 use Rattle.theory.specs.Sums.{when, sum, Among}
-use Rattle.theory.specs.Markets.{without}
+use Rattle.theory.specs.Markets.{otherThan}
 use Rattle.theory.specs.Coalitions.{Roster}
 
 module _ (R : Roster) where
@@ -24,4 +24,4 @@ module _ (R : Roster) where
   pub record Ranks : Type 0 where
     pub none : (z : ℕ) × (z < R .sets) × ((i : ℕ) → Among (R .many) (R .low) i → R .member z i ≡ false)
     pub fewer : (x i : ℕ) → Among (R .many) (R .low) i → R .member x i ≡ true →
-        (y : ℕ) × (y < x) × ((j : ℕ) → Among (R .many) (R .low) j → R .member y j ≡ (R .member x j && without i j))
+        (y : ℕ) × (y < x) × ((j : ℕ) → Among (R .many) (R .low) j → R .member y j ≡ (R .member x j && otherThan i j))

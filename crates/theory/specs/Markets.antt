@@ -89,8 +89,8 @@ module _ {A : Type 0} (M : Market A) where
       ((i : ℕ) → Bidder i → t i ≡ false → (M .holds c i ≡ 0) ⊎ (M .holds c i ≡ top))
 
 -- the bidders but i
-abbrev pub without : ℕ → ℕ → Bool
-without i j = not (eqb j i)
+abbrev pub otherThan : ℕ → ℕ → Bool
+otherThan i j = not (eqb j i)
 
 -- payoffs of some bidders only, 0 for the others
 abbrev pub only : (ℕ → Bool) → (ℕ → ℕ) → ℕ → ℕ

@@ -1,6 +1,7 @@
--- One law for each way through a loop: over the bidders (`bidders-sum`; `each-total` where all have one bundle), over the buyers that own something, from the
--- last down (`set-with`, `set-without`, `set-all`), over words into the values of sets (`values-rise`, `values-stay`),
--- over economies (`raise-here`, `raise-not`), and over words into the greatest totals of all economies (`Reached`).
+-- One law for each way through a loop: over the bidders (`bidders-sum`; `each-total` where all have one bundle), over
+-- the buyers that own something, from the last down (`set-with`, `set-without`, `set-all`), over words into the values
+-- of sets (`values-rise`, `values-stay`), over economies (`raise-here`, `raise-not`), and over words into the greatest
+-- totals of all economies (`Reached`).
 use mathlib.Core.Path.{_≡_, refl, ap, _∙_}
 use mathlib.Core.Bool.{Bool, not}
 use mathlib.Core.List.{List}

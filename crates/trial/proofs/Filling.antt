@@ -13,7 +13,7 @@ use Rattle.theory.proofs.Loops.{Filled}
 use Rattle.numbers.proofs.Numbers.{place-below, count-line, count-place}
 use Rattle.generator.specs.declared.Generator.{Generator}
 use Rattle.generator.specs.Xorwow.{drawn, after, drawNumber}
-use Rattle.trial.specs.Worths.{rowWorth, raisedBy, mostFewer, rowUpTo, drawFor, trialAt}
+use Rattle.trial.specs.Worths.{rowWorth, drawnWorth, mostFewer, rowUpTo, drawFor, trialAt}
 use Rattle.trial.proofs.Rows.{row-length, row-last, row-kept}
 
 module _ (N n top size : ℕ) (is : size ≡ 2 ^ n - 1) (some : 1 ≤ size) where
@@ -67,12 +67,12 @@ module _ (N n top size : ℕ) (is : size ≡ 2 ^ n - 1) (some : 1 ≤ size) wher
 
     -- the next state, draw and worth
     pub filled-next : (g : Generator) → g ≡ after (100 * N + k) → (fewer : ℕ) →
-        fewer ≡ mostFewer n (rowWorth part) (c + 1) → raisedBy top fewer (drawn g .value) ≡ trialAt N n top k
+        fewer ≡ mostFewer n (rowWorth part) (c + 1) → drawnWorth top fewer (drawn g .value) ≡ trialAt N n top k
     filled-next g e fewer f =
         let draws = drawFor N n i in
         let next : 100 * N + (i * (2 ^ n - 1) + suc c) ≡ suc (100 * N + k) = omega (arith, whole, ap (λ z. i * z) is) in
         let value : drawn g .value ≡ draws (suc c) = ap (λ s. drawn s .value) e ∙ sym (ap drawNumber next) in
         let fewest : fewer ≡ mostFewer n (rowWorth row) (suc c) =
         f ∙ ap (λ l. mostFewer n (rowWorth l) (c + 1)) filled-row ∙ ap (mostFewer n (rowWorth row)) (add-one c) in
-        ap₂ (raisedBy top) fewest value ∙ sym (row-last n top draws c) ∙ sym (trial-place i c below)
+        ap₂ (drawnWorth top) fewest value ∙ sym (row-last n top draws c) ∙ sym (trial-place i c below)
         ∙ ap (trialAt N n top) whole

@@ -13,7 +13,7 @@ use lib.ListN.{length, getD, length-append, List·getD-append, List·getD-eq-def
 use lib.Seq.{getD-append-seam}
 use Rattle.numbers.specs.Numbers.{bit, Is}
 use Rattle.numbers.proofs.Subsets.{bit-le}
-use Rattle.trial.specs.Worths.{rowWorth, worthWithout, raisedBy, mostFewer, rowUpTo}
+use Rattle.trial.specs.Worths.{rowWorth, worthWithout, drawnWorth, mostFewer, rowUpTo}
 
 -- what bundle s is worth without its lot j + 1; x says whether it has that lot
 module _ (row : List ℕ) (s j : ℕ) (x : Bool) (same : x ≡ bit j s) where
@@ -46,7 +46,8 @@ module _ (n top : ℕ) (draws : ℕ → ℕ) where
   row-length (suc c) = length-append (up c) _ ∙ omega (arith, row-length c)
 
   -- the last is raised by its draw, and no later one changes it
-  pub row-last : (c : ℕ) → getD (up (suc c)) c 0 ≡ raisedBy top (mostFewer n (rowWorth (up c)) (suc c)) (draws (suc c))
+  pub row-last : (c : ℕ) → getD (up (suc c)) c 0 ≡ drawnWorth top (mostFewer n (rowWorth (up c)) (suc c))
+      (draws (suc c))
   row-last c =
       ap (λ k. getD (up (suc c)) k 0) (sym (row-length c)) ∙ getD-append-seam (up c) _ [] 0
 

@@ -16,8 +16,8 @@ use Rattle.numbers.specs.Numbers.{bit}
 use Rattle.numbers.proofs.Numbers.{pow-some, count-below}
 use Rattle.numbers.proofs.Subsets.{bit-le, bit-some}
 use Rattle.writing.specs.Lists.{listed}
-use Rattle.trial.specs.Worths.{rowWorth, worthWithout, raisedBy, mostFewer, rowUpTo, drawFor, trialTable, trialAt}
-use Rattle.trial.specs.Worths.{trialList, mostWorths}
+use Rattle.trial.specs.Worths.{rowWorth, worthWithout, drawnWorth, mostFewer, rowUpTo, drawFor, trialTable}
+use Rattle.trial.specs.Worths.{trialAt, trialList, mostWorths}
 use Rattle.trial.proofs.Rows.{row-last, row-kept, row-small}
 use Rattle.trial.proofs.Filling.{trial-place}
 
@@ -58,10 +58,10 @@ module _ (N n top i : ℕ) where
       (λ e. rw e (row-worth c (suc c - 2 ^ j) (omega (arith, pow-some j))))
       (λ e. rw e refl)
 
-  pub trial-worth : (c : ℕ) → v (suc c) ≡ raisedBy top (mostFewer n v (suc c)) (drawFor N n i (suc c))
+  pub trial-worth : (c : ℕ) → v (suc c) ≡ drawnWorth top (mostFewer n v (suc c)) (drawFor N n i (suc c))
   trial-worth c =
       row-last n top (drawFor N n i) c
-      ∙ ap (λ x. raisedBy top x (drawFor N n i (suc c)))
+      ∙ ap (λ x. drawnWorth top x (drawFor N n i (suc c)))
       (most-same (worthWithout (rowWorth (up c)) (suc c)) (worthWithout v (suc c)) (upTo n 0)
       (λ j _. without-worth c j))
 

@@ -14,7 +14,7 @@ use Rattle.offers.specs.Offers.{offerOf}
 use Rattle.offers.specs.Rounds.{roundLimit}
 use Rattle.sale.specs.Answers.{SaleSays}
 use Rattle.writing.specs.declared.Wrote.{Wrote}
-use Rattle.trial.specs.Worths.{raisedBy, mostFewer, drawFor, trialTable}
+use Rattle.trial.specs.Worths.{drawnWorth, mostFewer, drawFor, trialTable}
 use Rattle.trial.specs.Answers.{trialFault, trialBytes, TrialSays, trialText}
 
 -- rule 12.5: the numbers of the questions, in the order in which they are asked, and the questions
@@ -43,7 +43,7 @@ pub record Trials : Type 0 where
   -- rule 12.4: the empty bundle is worth 0, and each other one is drawn
   pub trial-empty : (N n top i : ℕ) → trialTable N n top i 0 ≡ 0
   pub trial-worth : (N n top i c : ℕ) → let v = trialTable N n top i in
-      v (suc c) ≡ raisedBy top (mostFewer n v (suc c)) (drawFor N n i (suc c))
+      v (suc c) ≡ drawnWorth top (mostFewer n v (suc c)) (drawFor N n i (suc c))
   -- demand 1: the number is that of the first question that gets a "no", 0 if there is none, and the place is 0. A
   -- refusal has length 0 and leaves the buffer as it was
   pub trial-first-no : (m n top room j : ℕ) → j < 4 → (trialFault m n top room .number ≡ getD questionNumbers j 0)

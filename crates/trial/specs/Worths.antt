@@ -23,14 +23,14 @@ abbrev pub mostFewer : ℕ → (ℕ → ℕ) → ℕ → ℕ
 mostFewer n v s = most (worthWithout v s) (upTo n 0)
 
 -- a worth, by that and a draw
-abbrev pub raisedBy : ℕ → ℕ → ℕ → ℕ
-raisedBy top fewer value = min 9999 (fewer + value % suc top)
+abbrev pub drawnWorth : ℕ → ℕ → ℕ → ℕ
+drawnWorth top fewer value = min 9999 (fewer + value % suc top)
 
 -- a buyer's worths of the bundles from 1 to k, upward; `draws s` is the draw for bundle s
 abbrev pub rowUpTo : ℕ → ℕ → (ℕ → ℕ) → ℕ → List ℕ
 rowUpTo n top draws zero = []
 rowUpTo n top draws (suc c) =
-    let row = rowUpTo n top draws c in row ++ (raisedBy top (mostFewer n (rowWorth row) (suc c)) (draws (suc c)) ∷ [])
+    let row = rowUpTo n top draws c in row ++ (drawnWorth top (mostFewer n (rowWorth row) (suc c)) (draws (suc c)) ∷ [])
 
 -- rule 12.3: the draw for bundle s on line i of sheet number N
 abbrev pub drawFor : ℕ → ℕ → ℕ → ℕ → ℕ

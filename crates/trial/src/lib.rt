@@ -3,7 +3,7 @@ ghost use mathlib.Core.Path.{_≡_};
 ghost use Prim.Native.Nat.{ℕ, _+_, _≤_, _<_};
 ghost use lib.ListN.{length, getD};
 ghost use Rattle.numbers.specs.Numbers.{Is};
-ghost use Rattle.trial.specs.Worths.{rowWorth, worthWithout, mostFewer, raisedBy, mostWorths};
+ghost use Rattle.trial.specs.Worths.{rowWorth, worthWithout, mostFewer, drawnWorth, mostWorths};
 ghost use Rattle.trial.specs.Answers.{TrialSays, trialAsked, trialLines, asText, trialTextOf};
 ghost use Rattle.trial.specs.Claims.{Trials};
 use lines::bundles;
@@ -48,7 +48,7 @@ fn most_fewer(row: &[u32], n: usize, s: usize) -> u32
 // A worth, by the greatest with one lot fewer and a draw.
 fn raised_by(top: u32, fewer: u32, value: u32) -> u32
     requires { ⌜ (top ≤ 9999) × (fewer ≤ 9999) ⌝ }
-    ensures { λ r. ⌜ r ≡ raisedBy top fewer value ⌝ }
+    ensures { λ r. ⌜ r ≡ drawnWorth top fewer value ⌝ }
 {
     let sum = fewer + value % (top + 1);
     if 9999 < sum {

@@ -7,15 +7,15 @@ use native.Mathlib.Nat.{sub-zero}
 use native.Mathlib.Omega.{arith}
 use Rattle.theory.specs.Lists.{most, upTo}
 use Rattle.theory.proofs.Loops.{most-more, most-done}
-use Rattle.owners.specs.Prices.{entry, seats, payoff, best}
+use Rattle.owners.specs.Prices.{entry, layout, payoff, best}
 use Rattle.demand.proofs.best_of.Statement.{statement}
 use Rattle.demand.proofs.best_of.Tie as tie
 
 abbrev Inv-loop : tie.InvT-loop
 Inv-loop worths prices bundles i top₀ s₀ top s =
     (top ≤ 131070)
-    × (max top (most (payoff (seats 0 6) (entry worths) prices i) (upTo (bundles - s) s))
-    ≡ best (seats 0 6) bundles (entry worths) prices i)
+    × (max top (most (payoff (layout 0 6) (entry worths) prices i) (upTo (bundles - s) s))
+    ≡ best (layout 0 6) bundles (entry worths) prices i)
 
 abbrev μ-loop : tie.MeasureT-loop
 μ-loop worths prices bundles i top₀ s₀ top s = bundles - s
@@ -33,7 +33,7 @@ loop-again c =
     let p = c .before .payoff-of in
     let next =
     most-more (z .bundles) (l .loop .s) (c .before .before .loop-test .taken)
-    (payoff (seats 0 6) (entry (z .worths .now)) (z .prices .now) (z .i)) (l .loop .top) (c .if1 .top) _
+    (payoff (layout 0 6) (entry (z .worths .now)) (z .prices .now) (z .i)) (l .loop .top) (c .if1 .top) _
     (l .loop .inv .1) in
     ⊎-elim
     (λ w. (omega (arith, p .ensures .most), next (omega (arith, p .ensures .is))))
@@ -46,7 +46,7 @@ returns c =
     let z = l .before .before .before .args in
     record {
       is = most-done (z .bundles) (l .loop .s) (omega arith)
-          (payoff (seats 0 6) (entry (z .worths .now)) (z .prices .now) (z .i)) (l .loop .top) _ (l .loop .inv .1);
+          (payoff (layout 0 6) (entry (z .worths .now)) (z .prices .now) (z .i)) (l .loop .top) _ (l .loop .inv .1);
       most = l .loop .inv .0;
     }
 

@@ -7,10 +7,10 @@ use lib.ListN.{length, getD, length-take, length-drop}
 use borrow.Author.Needs.{needs}
 use Rattle.theory.specs.Lists.{tabulate, over}
 use Rattle.fields.specs.Fields.{linesOf}
-use Rattle.owners.specs.Prices.{plain, price}
+use Rattle.owners.specs.Prices.{buyerRows, price}
 use Rattle.fields.proofs.Lines.{line-length}
 use Rattle.printing.proofs.Lines.{lines-long, lines-more}
-use Rattle.tables.proofs.Tables.{entry-plain, row-fits}
+use Rattle.tables.proofs.Tables.{entry-price, row-fits}
 use Rattle.printed.specs.Printed.{buyerLine}
 use Rattle.printing.proofs.Fours.{four-small}
 use Rattle.printed.proofs.put_buyers.Statement.{statement}
@@ -79,8 +79,8 @@ loop-again c =
     let f = buyerLine r in
     let i = a .loop .i in
     let cost =
-    p .entry .ensures .is ∙ entry-plain (r .prices) (i + 1) (b .bundle-of .result) (omega arith)
-    ∙ ap (price (plain 6) (r .prices) (i + 1)) (b .bundle-of .ensures .is) in (
+    p .entry .ensures .is ∙ entry-price (r .prices) (i + 1) (b .bundle-of .result) (omega arith)
+    ∙ ap (price (buyerRows 6) (r .prices) (i + 1)) (b .bundle-of .ensures .is) in (
       omega arith,
       lines-more f 25 (λ k. line-length (f k)) (s .args .out .now) i (a .loop .out) (a .loop .inv .1)
           (omega (arith, s .pre .1)) _ refl _ _

@@ -32,8 +32,10 @@ loop-again c = (
 )
 
 returns : tie.Need-returns Inv-loop μ-loop
-returns c =
-    (c .before .loop .inv .1 .small, read-end (c .before .before .before .before .args .buyers) (c .before .loop .inv .1) (omega arith))
+returns c = (
+  c .before .loop .inv .1 .small,
+  read-end (c .before .before .before .before .args .buyers) (c .before .loop .inv .1) (omega arith),
+)
 
 pub payoffs-spec : {M : Type 1} → statement M
 payoffs-spec =

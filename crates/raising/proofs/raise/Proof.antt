@@ -5,14 +5,14 @@ use Prim.Native.Nat.{_+_, _-_, _≤_}
 use native.Mathlib.Omega.{arith}
 use lib.ListN.{length}
 use Rattle.owners.specs.Singles.{AtMost}
-use Rattle.supply.specs.Supply.{owed}
+use Rattle.supply.specs.Supply.{payoffAt}
 use Rattle.raising.proofs.Rising.{raisedTo, rows-small, rows-none, rows-long, rows-in, rows-out, rows-end}
 use Rattle.raising.proofs.raise.Statement.{statement}
 use Rattle.raising.proofs.raise.Tie as tie
 
 abbrev Inv-loop : tie.InvT-loop
 Inv-loop worths payoffs prices₀ buyers bundles set i₀ prices i =
-    (1 ≤ i) × (i ≤ buyers + 1) × (prices ≡ raisedTo buyers bundles worths set (owed payoffs) prices₀ i)
+    (1 ≤ i) × (i ≤ buyers + 1) × (prices ≡ raisedTo buyers bundles worths set (payoffAt payoffs) prices₀ i)
 
 abbrev μ-loop : tie.MeasureT-loop
 μ-loop worths payoffs prices₀ buyers bundles set i₀ prices i = buyers + 1 - i
@@ -22,14 +22,16 @@ module _ (l : tie.At-loop Inv-loop μ-loop) where
   long =
       let a = l .before .before .before .args in
       ap length (l .loop .inv .2)
-      ∙ rows-long (a .buyers) (a .bundles) (a .worths .now) (a .set) (owed (a .payoffs .now)) (a .prices .now) (l .loop .i)
+      ∙ rows-long (a .buyers) (a .bundles) (a .worths .now) (a .set) (payoffAt (a .payoffs .now)) (a .prices .now)
+      (l .loop .i)
 
   small : AtMost 60001 (l .loop .prices)
   small =
       let z = l .before .before .before in
       let a = z .args in
       rw (l .loop .inv .2)
-      (rows-small (a .buyers) (a .bundles) (a .worths .now) (a .set) (owed (a .payoffs .now)) (a .prices .now) (l .loop .i)
+      (rows-small (a .buyers) (a .bundles) (a .worths .now) (a .set) (payoffAt (a .payoffs .now)) (a .prices .now)
+      (l .loop .i)
       60000 (z .pre .5))
 
 loop-holds : tie.Need-loop-holds Inv-loop μ-loop
@@ -37,7 +39,8 @@ loop-holds c =
     let z = c .before .before in (
       omega arith,
       omega arith,
-      rows-none (z .args .buyers) (z .args .bundles) (z .args .worths .now) (z .args .set) (owed (z .args .payoffs .now)) _
+      rows-none (z .args .buyers) (z .args .bundles) (z .args .worths .now) (z .args .set)
+          (payoffAt (z .args .payoffs .now)) _
           (z .pre .4),
     )
 
@@ -53,7 +56,7 @@ loop-again c =
     let z = l .before .before .before in
     let a = z .args in
     let e = c .before .is-member .ensures in
-    let π = owed (a .payoffs .now) in
+    let π = payoffAt (a .payoffs .now) in
     ⊎-elim
     (λ w. (
       omega arith,
@@ -64,7 +67,8 @@ loop-again c =
     (λ w. (
       omega arith,
       omega arith,
-      w .1 ∙ l .loop .inv .2 ∙ rows-out (a .buyers) (a .bundles) (a .worths .now) (a .set) π (a .prices .now) (l .loop .i)
+      w .1 ∙ l .loop .inv .2 ∙ rows-out (a .buyers) (a .bundles) (a .worths .now) (a .set) π (a .prices .now)
+          (l .loop .i)
           (l .loop .inv .0) (omega arith) (z .pre .0) (sym e ∙ w .0 .left),
     ))
     (c .if1 .came)
@@ -77,7 +81,8 @@ returns c =
     let l = c .before in
     let a = l .before .before .before .args in
     l .loop .inv .2
-    ∙ rows-end (a .buyers) (a .bundles) (a .worths .now) (a .set) (owed (a .payoffs .now)) (a .prices .now) (l .loop .i)
+    ∙ rows-end (a .buyers) (a .bundles) (a .worths .now) (a .set) (payoffAt (a .payoffs .now)) (a .prices .now)
+    (l .loop .i)
     (omega arith)
 
 pub raise-spec : {M : Type 1} → statement M

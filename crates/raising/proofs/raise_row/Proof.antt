@@ -6,7 +6,7 @@ use native.Mathlib.Omega.{arith}
 use lib.Dec.{eqb}
 use lib.ListN.{length, getD}
 use borrow.Author.Tests.{le-leb, lt-leb}
-use Rattle.owners.specs.Singles.{worth}
+use Rattle.owners.specs.Singles.{worthTable}
 use Rattle.raising.specs.Raising.{raisedRow}
 use Rattle.raising.proofs.Rising.{raised-long, row-none, row-at, row-more}
 use Rattle.raising.proofs.raise_row.Statement.{statement}
@@ -25,11 +25,12 @@ module _ (l : tie.At-loop Inv-loop μ-loop) where
   long =
       let z = l .before .before .before in
       ap length (l .loop .inv .2)
-      ∙ raised-long 6 (l .loop .s) (worth (z .args .worths .now)) (eqb (z .args .i)) (λ _. z .args .left)
+      ∙ raised-long 6 (l .loop .s) (worthTable (z .args .worths .now)) (eqb (z .args .i)) (λ _. z .args .left)
       (z .args .prices .now)
 
   same : l .loop .s < 16 → getD (l .loop .prices) (16 * (l .before .before .before .args .i - 1) + l .loop .s) 0
-      ≡ getD (l .before .before .before .args .prices .now) (16 * (l .before .before .before .args .i - 1) + l .loop .s) 0
+      ≡ getD (l .before .before .before .args .prices .now) (16 * (l .before .before .before .args .i - 1) + l .loop .s)
+      0
   same h =
       let z = l .before .before .before in
       row-at (z .args .worths .now) (z .args .i) (z .args .left) (z .pre .0) (z .pre .1) (z .args .prices .now)

@@ -4,8 +4,8 @@ use Prim.Native.Nat.{suc, _-_, _^_, _<_}
 use native.Mathlib.Omega.{arith}
 use lib.ListN.{length, length-set}
 use Rattle.owners.specs.Owners.{member}
-use Rattle.owners.specs.Singles.{worth}
-use Rattle.supply.specs.Supply.{owed, lowestIn}
+use Rattle.owners.specs.Singles.{worthTable}
+use Rattle.supply.specs.Supply.{payoffAt, lowestIn}
 use Rattle.supply.proofs.Keeping.{lowest-below, lowest-keens}
 use Rattle.raising.proofs.Rising.{raised-long}
 use Rattle.rounds.specs.Rounds.{tables}
@@ -120,8 +120,9 @@ same-length c =
     let z = begin (found (choosing u)) in
     let a = z .args in
     ap length (u .raise .ensures)
-    ∙ raised-long (a .buyers) (a .bundles) (worth (a .worths .now)) (member (found (choosing u) .lowest .result - 1))
-    (owed (a .payoffs .now)) (a .prices .now)
+    ∙ raised-long (a .buyers) (a .bundles) (worthTable (a .worths .now))
+    (member (found (choosing u) .lowest .result - 1))
+    (payoffAt (a .payoffs .now)) (a .prices .now)
     ∙ sym (z .pre .2)
 
 same-length-2 : tie.Need-same-length-2

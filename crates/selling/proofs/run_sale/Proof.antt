@@ -111,7 +111,8 @@ returns-3 c =
     let p = read e in
     let z = lent e .args in
     sale-settled (z .sheet .now) (p .read-worths .result) (p .read-worths .ensures) (z .log .now) (e .if1 .left)
-    (l .limit-of .result) (sum-is l) (omega (arith, w .before .before .if2 .left)) (s .sell .result) _ (s .sell .ensures)
+    (l .limit-of .result) (sum-is l) (omega (arith, w .before .before .if2 .left)) (s .sell .result) _
+    (s .sell .ensures)
 
 pub run-sale-spec : {M : Type 1} → statement M
 run-sale-spec =

@@ -6,13 +6,13 @@ use lib.ListN.{getD}
 use Rattle.theory.specs.Coalitions.{gain}
 use Rattle.theory.proofs.Loops.{Filled, filled-none, filled-more}
 use Rattle.owners.specs.Quick.{roster}
-use Rattle.supply.specs.Supply.{shift, at, owed}
+use Rattle.supply.specs.Supply.{shift, at, payoffAt}
 use Rattle.supply.proofs.gains.Statement.{statement}
 use Rattle.supply.proofs.gains.Tie as tie
 
 abbrev Inv-loop : tie.InvT-loop
 Inv-loop values payoffs buyers sets next₀ k₀ next k =
-    (k ≤ sets) × Filled (gain (roster buyers) shift (at values) (owed payoffs)) 64 k next
+    (k ≤ sets) × Filled (gain (roster buyers) shift (at values) (payoffAt payoffs)) 64 k next
 
 abbrev μ-loop : tie.MeasureT-loop
 μ-loop values payoffs buyers sets next₀ k₀ next k = sets - k

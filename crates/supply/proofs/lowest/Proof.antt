@@ -9,7 +9,8 @@ returns c =
     let k = c .before .before .before in
     let z = k .before in
     record {
-      is = words-lowest (z .args .buyers) (z .args .last) (z .args .words .now) (z .args .payoffs .now) _ (k .keen-set .result) _ _ _
+      is = words-lowest (z .args .buyers) (z .args .last) (z .args .words .now) (z .args .payoffs .now) _
+          (k .keen-set .result) _ _ _
           (z .pre .1) (z .pre .3 .is)
           (k .keen-set .ensures) (z .pre .0 (k .keen-set .result) (k .keen-set .ensures .few))
           (c .before .everywhere .ensures)

@@ -7,14 +7,15 @@ use native.Mathlib.Omega.{arith}
 use Rattle.theory.specs.Sums.{sum}
 use Rattle.theory.specs.Markets.{only}
 use Rattle.owners.specs.Owners.{member}
-use Rattle.supply.specs.Supply.{at, owed}
+use Rattle.supply.specs.Supply.{at, payoffAt}
 use Rattle.supply.proofs.Choosing.{pay-in, pay-out}
 use Rattle.supply.proofs.payoff_of.Statement.{statement}
 use Rattle.supply.proofs.payoff_of.Tie as tie
 
 abbrev Inv-loop : tie.InvT-loop
 Inv-loop payoffs buyers k total₀ i₀ total i =
-    (i ≤ buyers) × (total ≡ sum (buyers - i) (suc i) (only (member k) (owed payoffs))) × (total ≤ 9999 * (buyers - i))
+    (i ≤ buyers) × (total ≡ sum (buyers - i) (suc i) (only (member k) (payoffAt payoffs)))
+    × (total ≤ 9999 * (buyers - i))
 
 abbrev μ-loop : tie.MeasureT-loop
 μ-loop payoffs buyers k total₀ i₀ total i = i

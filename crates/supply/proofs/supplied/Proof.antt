@@ -42,14 +42,16 @@ loop-again c =
     ⊎-elim
     (λ w. (
       omega arith,
-      scan-more (z .buyers) (z .last) (z .gains .now) (z .revenues .now) (z .sets) (l .loop .k) (l .loop .words) (c .if1 .words)
+      scan-more (z .buyers) (z .last) (z .gains .now) (z .revenues .now) (z .sets) (l .loop .k) (l .loop .words)
+          (c .if1 .words)
           (l .loop .inv .1)
           (omega arith) _ (w .2 .ensures .1) (w .3),
       ap length (w .3) ∙ w .2 .ensures .0,
     ))
     (λ w. (
       omega arith,
-      scan-pass (z .buyers) (z .last) (z .gains .now) (z .revenues .now) (z .sets) (l .loop .k) (l .loop .words) (c .if1 .words)
+      scan-pass (z .buyers) (z .last) (z .gains .now) (z .revenues .now) (z .sets) (l .loop .k) (l .loop .words)
+          (c .if1 .words)
           (l .loop .inv .1)
           (omega arith) (l .before .least-of .result) (l .before .least-of .ensures) (w .0 .left) (w .1),
       ap length (w .1) ∙ l .loop .inv .2,
@@ -60,7 +62,8 @@ returns : tie.Need-returns Inv-loop μ-loop
 returns c =
     let l = c .before in
     let z = l .before .before .args in
-    scan-end (z .buyers) (z .last) (z .gains .now) (z .revenues .now) (z .sets) (l .loop .k) (l .loop .words) (l .loop .words)
+    scan-end (z .buyers) (z .last) (z .gains .now) (z .revenues .now) (z .sets) (l .loop .k) (l .loop .words)
+    (l .loop .words)
     (l .loop .inv .1) (c .loop-test .left)
 
 pub supplied-spec : {M : Type 1} → statement M

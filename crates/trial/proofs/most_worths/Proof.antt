@@ -9,7 +9,7 @@ use lib.ListN.{length, take, drop, getD}
 use Rattle.theory.proofs.Loops.{Filled, filled-none, filled-more, filled-all}
 use Rattle.numbers.proofs.Numbers.{pow-some, size-some}
 use Rattle.generator.specs.Xorwow.{drawn, after}
-use Rattle.trial.specs.Worths.{raisedBy, rowUpTo, drawFor, trialAt, mostWorths}
+use Rattle.trial.specs.Worths.{drawnWorth, rowUpTo, drawFor, trialAt, mostWorths}
 use Rattle.trial.proofs.Rows.{row-length, row-small}
 use Rattle.trial.proofs.Filling.{filled-row, filled-next}
 use Rattle.trial.proofs.most_worths.Statement.{statement}
@@ -104,7 +104,7 @@ loop-again c =
     let r = c .before .raised-by in (
       ap (λ d. d .next) (p .draw .ensures) ∙ ap (λ g. drawn g .next) (l .inv .0) ∙ sym (ap after next),
       filled-more _ 90 _ _ _ (low p)
-          (r .ensures ∙ ap (λ d. raisedBy (top p) (f .result) (d .value)) (p .draw .ensures)
+          (r .ensures ∙ ap (λ d. drawnWorth (top p) (f .result) (d .value)) (p .draw .ensures)
           ∙ filled-next (N p) (n p) (top p) (size p) (is p) (some p) (k p) (t p) (low p) (l .inv .1) (l .g) (l .inv .0)
           (f .result) (f .ensures .is))
           (l .inv .1),

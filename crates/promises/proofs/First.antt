@@ -1,5 +1,5 @@
--- Demand 1 (`demand-1`): which numbers and places an entry can answer (`numbered`), that 0 means accepted, and what a
--- refusal says.
+-- Demand 1 (`refusals-hold`): which numbers and places an entry can answer (`numbered`), that 0 means accepted, and
+-- what a refusal says.
 use mathlib.Core.Path.{_≡_, refl, sym, ap, subst, _∙_}
 use mathlib.Core.Logic.{_≢_, _⊎_, inl, inr}
 use mathlib.Core.Bool.{Bool}
@@ -26,7 +26,7 @@ use Rattle.sale.specs.Answers.{demandAnswer, settledSale, SaleSays}
 use Rattle.sale.proofs.Claimed.{sales-hold}
 use Rattle.direct.specs.declared.Direct.{Direct}
 use Rattle.direct.specs.Answers.{directAnswer}
-use Rattle.demands.specs.Claims.{Own, unplaced, AllYes, FirstNo, Numbered, Demand-1}
+use Rattle.promises.specs.Claims.{Own, unplaced, AllYes, FirstNo, Numbered, Refusals}
 use Rattle.sale.proofs.Opening.{sale-number, sale-place, sale-open, sale-closed}
 use Rattle.sale.proofs.Opening.{demand-number, demand-place, demand-closed}
 use Rattle.direct.proofs.Opening.{direct-number, direct-place, direct-closed}
@@ -191,9 +191,9 @@ sheet-again : (b : List ℕ) → let r = sheetRead b in r .number ≢ 0 →
 unfolding sheetRead worthsRead worthsBy
 sheet-again b h = rw (ne-eqb (sheetFault b .number) 0 h)
 
-pub demand-1 : Demand-1
+pub refusals-hold : Refusals
 unfolding sheetRead worthsRead worthsBy
-demand-1 =
+refusals-hold =
     record {
       reads = numbered-plain;
       reads-worths = numbered-plain;

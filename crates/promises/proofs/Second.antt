@@ -1,4 +1,4 @@
--- Demand 2, of a settled sale's answer and record (`demand-2`).
+-- Demand 2, of a settled sale's answer and record (`records-hold`).
 use mathlib.Core.Path.{_≡_, ap, _∙_}
 use native.Mathlib.Omega.{arith}
 use lib.ListN.{length, getD}
@@ -8,12 +8,12 @@ use Rattle.sale.specs.declared.Sale.{Sale}
 use Rattle.offers.specs.Rounds.{saleSets}
 use Rattle.sale.specs.Answers.{settledSale}
 use Rattle.sale.proofs.Claimed.{sales-hold}
-use Rattle.demands.specs.Claims.{Demand-2}
+use Rattle.promises.specs.Claims.{Records}
 use Rattle.sale.proofs.Opening.{sale-open}
 
-pub demand-2 : Demand-2
+pub records-hold : Records
 unfolding settledSale
-demand-2 b o o′ r says z =
+records-hold b o o′ r says z =
     let open′ = sale-open b o o′ r says z in
     let O = offerOf b in
     let claims = sales-hold b (open′ .accepted) in

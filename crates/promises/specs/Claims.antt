@@ -1,4 +1,4 @@
--- The three demands, each of what the public functions answer: for any sheets, records, prices and answers. `Demands`
+-- The three demands, each of what the public functions answer: for any sheets, records, prices and answers. `Promises`
 -- has them together.
 use mathlib.Core.Path.{_≡_}
 use mathlib.Core.Logic.{_≢_, _⊎_, _↔_}
@@ -49,7 +49,7 @@ pub record Numbered (b : List ℕ) (own : List Own) (number place : ℕ) : Type 
   pub a-place : 6 ≤ number → number ≤ 8 → (13 ≤ place) × (place < length b)
   pub least-place : Placed b number place
 
-pub record Demand-1 : Type 0 where
+pub record Refusals : Type 0 where
   -- reading, which has no question of its own
   pub reads : (b : List ℕ) → let r = sheetRead b in Numbered b [] (r .number) (r .place)
   pub reads-worths : (b : List ℕ) → let r = worthsRead b in Numbered b [] (r .number) (r .place)
@@ -81,8 +81,8 @@ pub record Recorded (O : Offer) (o o′ : List ℕ) (r : Sale) : Type 0 where
   pub long : length o′ ≡ length o
   pub prices : r .prices ≡ lastPrices O
 
-abbrev pub Demand-2 : Type 0
-Demand-2 = (b o o′ : List ℕ) (r : Sale) → SaleSays b o o′ r → r .number ≡ 0 → Recorded (offerOf b) o o′ r
+abbrev pub Records : Type 0
+Records = (b o o′ : List ℕ) (r : Sale) → SaleSays b o o′ r → r .number ≡ 0 → Recorded (offerOf b) o o′ r
 
 -- Demand 3 (rules 5.13 to 5.16). An allocation (rule 5.6)
 abbrev pub Allocation : Offer → List ℕ → Type 0
@@ -132,7 +132,7 @@ abbrev pub NoGain : Offer → ℕ → List ℕ → List ℕ → List ℕ → Lis
 NoGain O i owners payments owners′ payments′ =
     worthOf O i (bundleIn O i owners′) + numberIn i payments ≤ worthOf O i (bundleIn O i owners) + numberIn i payments′
 
-pub record Demand-3 : Type 0 where
+pub record Outcomes : Type 0 where
   -- a sheet that a sale accepts the direct way accepts, and their owners and payments are alike, place for place
   pub alike : (b o o′ : List ℕ) (r : Sale) (d : Direct) → SaleSays b o o′ r → d ≡ directAnswer b → r .number ≡ 0 →
       (d .number ≡ 0) × (r .owners ≡ d .owners) × (r .payments ≡ d .payments)
@@ -154,7 +154,7 @@ pub record Demand-3 : Type 0 where
       (numberIn i (r .payments) ≤ worthOf (offerOf b) i (bundleIn (offerOf b) i (r .owners)))
       × (numberIn i (r .payments) ≤ 9999)
 
-pub record Demands : Type 0 where
-  pub first : Demand-1
-  pub second : Demand-2
-  pub third : Demand-3
+pub record Promises : Type 0 where
+  pub first : Refusals
+  pub second : Records
+  pub third : Outcomes

@@ -1,5 +1,5 @@
--- Demand 3 (`demand-3`): sale and direct way answer alike; the direct way's list is the first of greatest total, and
--- its payments are exact; nobody gains by another table.
+-- Demand 3 (`outcomes-hold`): sale and direct way answer alike; the direct way's list is the first of greatest total,
+-- and its payments are exact; nobody gains by another table.
 use mathlib.Core.Path.{_≡_, refl, sym, ap, subst, _∙_}
 use mathlib.Core.List.{List}
 use Prim.Native.Nat.{ℕ, zero, suc, _+_, _-_, _≤_, _<_}
@@ -29,7 +29,7 @@ use Rattle.sale.proofs.Opening.{sale-open}
 use Rattle.direct.specs.declared.Direct.{Direct}
 use Rattle.direct.specs.Answers.{reckoned, directAnswer}
 use Rattle.direct.proofs.Opening.{direct-open, direct-number}
-use Rattle.demands.specs.Claims.{bundleIn, numberIn, GreatestWithout, Reckoned, AlikeBut, NoGain, Demand-3}
+use Rattle.promises.specs.Claims.{bundleIn, numberIn, GreatestWithout, Reckoned, AlikeBut, NoGain, Outcomes}
 
 -- a buyer's number among six
 place-in : (m : ℕ) (f : ℕ → ℕ) (i : ℕ) → m ≤ 6 → Among m 1 i → numberIn i (perBuyer m f) ≡ f i
@@ -220,8 +220,8 @@ module _ (b : List ℕ) (d : Direct) (e : d ≡ directAnswer b) (z : d .number �
       let y = direct-accepted in
       rw (direct-open b d e z .1) (answer (offerOf b) (good b y) (lists b y) (few b y) (little b y))
 
-pub demand-3 : Demand-3
-demand-3 =
+pub outcomes-hold : Outcomes
+outcomes-hold =
     record {
       alike = λ b o o′ r d says e z.
           let none = direct-number b d e ∙ sale-accepted b o o′ r says z in (

@@ -6,13 +6,13 @@ use mathlib.Core.Bool.{true}
 use mathlib.Core.List.{List, [], _∷_}
 use Prim.Native.Nat.{ℕ}
 use lib.ListN.{getD, set, replicate}
-use Rattle.theory.specs.Auction.{Beneath}
+use Rattle.theory.specs.Auction.{ProperSubset}
 use Rattle.fields.specs.Fields.{linesOf}
 use Rattle.owners.specs.Owners.{member}
 use Rattle.sheet.specs.Sheets.{Sheet, sheetOf}
 use Rattle.offers.specs.Offers.{lotsOf, worthOf, market, undersupplied}
 use Rattle.offers.specs.Claims.{Prices, Agree}
-use Rattle.demands.specs.Claims.{AlikeBut}
+use Rattle.promises.specs.Claims.{AlikeBut}
 
 -- the example of rule 6.5, and one in which buyer 1 says 1, 1 and 2
 abbrev pub example : Sheet
@@ -42,6 +42,6 @@ pub record Witnesses : Type 0 where
   pub alike : AlikeBut 1 example other
   pub differ : worthOf (lotsOf example) 1 1 ≢ worthOf (lotsOf other) 1 1
   -- a proper subset: buyer 1 of buyers 1 and 2
-  pub beneath : Beneath (market (lotsOf example)) (member 1) (member 3)
+  pub beneath : ProperSubset (market (lotsOf example)) (member 1) (member 3)
   -- buyer 1 is asked 9 for a lot that it wants at 5 at most: the revenue is 9, so no allocation fits
   pub empty-set : undersupplied (lotsOf oneLot) (set zeros 1 9) 0 ≡ true

@@ -10,7 +10,7 @@ use Rattle.theory.specs.Sums.{Among}
 use Rattle.sheet.specs.Sheets.{worthsIn}
 use Rattle.owners.specs.Owners.{member}
 use Rattle.offers.specs.Offers.{lotsOf, worthOf}
-use Rattle.demands.specs.Witnesses.{example, other, zeros, unread, Witnesses}
+use Rattle.promises.specs.Witnesses.{example, other, zeros, unread, Witnesses}
 
 highest : (k : ℕ) → getD (replicate 96 65535) k 0 ≤ 65535
 highest k =

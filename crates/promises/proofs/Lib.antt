@@ -2,5 +2,5 @@
 pub mod First
 pub mod Second
 pub mod Third
-pub mod Demands
+pub mod Promises
 pub mod Witnesses
