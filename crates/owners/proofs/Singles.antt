@@ -19,7 +19,7 @@ use Rattle.theory.proofs.Sums.{sum-mono, sum-const}
 use Rattle.theory.proofs.Lists.{keep-from}
 use Rattle.numbers.specs.Numbers.{bit}
 use Rattle.numbers.proofs.Subsets.{bit-half}
-use Rattle.owners.specs.Owners.{allocations, bundleFrom, lacks, market, single, auction, member}
+use Rattle.owners.specs.Owners.{allocations, bundleFrom, lacks, market, single, auctionOf, member}
 use Rattle.owners.specs.Prices.{buyerRows}
 use Rattle.owners.specs.Sales.{Valuations, Setting}
 use Rattle.owners.specs.Singles.{worthTable, AtMost}
@@ -62,7 +62,7 @@ bundle-bit i (o ∷ a) (suc k) h =
 
 module _ (m n : ℕ) (few : m ≤ 6) (short : n ≤ 4) (os : List ℕ) (unsold : 0 ∈ os) where
   abbrev X : Auction (List ℕ)
-  X = auction m n os single (2 ^ n - 1)
+  X = auctionOf m (allocations os n) single (2 ^ n - 1)
 
   abbrev al : List (List ℕ)
   al = allocations os n

@@ -1,6 +1,6 @@
 -- Owner lists as the allocations of an auction. Each lot has an owner, a buyer's number or 0 for unsold. Offers the
 -- list of all `allocations` and its order, what a buyer holds, the economies, the numbers of sets of buyers, and the
--- `auction`. The owners' order is a parameter, and so is a lot's share of a bundle's number.
+-- auction (`auctionOf`). The owners' order is a parameter, and so is a lot's share of a bundle's number.
 use mathlib.Core.Path.{_≡_}
 use mathlib.Core.Logic.{_⊎_}
 use mathlib.Core.Bool.{Bool, true, not, _&&_}
@@ -82,6 +82,3 @@ auctionOf m al share top =
       within = λ s u. s ≡ u;
       top = top;
     }
-
-abbrev pub auction : ℕ → ℕ → List ℕ → (ℕ → ℕ) → ℕ → Auction (List ℕ)
-auction m n os share top = auctionOf m (allocations os n) share top

@@ -1,7 +1,7 @@
 -- Equal payoffs give equal answers (`chosen-at`, `stepped-at`), a raise adds at most 1 (`step-small`), and it takes 1
 -- from what each member has left (`left-step`).
-use mathlib.Core.Path.{_≡_, refl, ap, _∙_}
-use mathlib.Core.Bool.{Bool, true, false, _&&_}
+use mathlib.Core.Path.{_≡_, ap, _∙_}
+use mathlib.Core.Bool.{Bool, and-true}
 use mathlib.Core.List.{List}
 use Prim.Native.Nat.{ℕ, suc, _+_, _-_, _*_, _/_, _≤_, _<_}
 use native.Mathlib.Nat.{zero-add}
@@ -64,10 +64,6 @@ rising-worth : (m all : ℕ) (v : Table) (set : ℕ → Bool) (π : ℕ → ℕ)
     rising (buyerRows m) all v set π j s ≡ set (suc j)
 rising-worth m all v set π j s a b c d =
     rw (lt-ltb j m a, le-leb 1 s b, lt-ltb s all c, le-leb (π (suc j)) (v (suc j) s) d) (and-true (set (suc j)))
-  where
-    and-true : (b : Bool) → (b && true) ≡ b
-    and-true true = refl
-    and-true false = refl
 
 -- the price of all lots rises for the members, so they have 1 less left
 module _

@@ -2,7 +2,7 @@
 -- (`best-rises`), the sets that are supplied in each economy by one set (`joins-more`) and by all (`scan-more`) and in
 -- all economies (`every-more`), the keen buyers (`keen-in`). `words-lowest` puts the steps together.
 use mathlib.Core.Path.{_≡_, refl, sym, ap, _∙_}
-use mathlib.Core.Bool.{Bool, true, false, not, _&&_, _||_, and-false, or-false}
+use mathlib.Core.Bool.{Bool, true, false, not, _&&_, _||_, and-true, and-false, or-false}
 use mathlib.Core.List.{List}
 use Prim.Native.Nat.{ℕ, suc, max, _+_, _-_, _*_, _^_, _≤_, _<_}
 use native.Mathlib.Nat.{sub-zero}
@@ -66,10 +66,6 @@ pub reach-start : (m sets n : ℕ) (t : ℕ → Bool) → sets ≡ 2 ^ m → (bi
     ≡ some t (upTo (2 ^ m) 0)
 reach-start m sets n t e = rw (bit-zero n, sub-zero, e)
 
-and-yes : (x : Bool) → (x && true) ≡ x
-and-yes true = refl
-and-yes false = refl
-
 module _ (m g top e n k word word′ : ℕ) where
   pub reach-lower : (g ≡ top → ⊥) → word′ ≡ word → bit n word′ ≡ (bit n word || reaches m g top e n k)
   reach-lower h ew =
@@ -90,7 +86,7 @@ module _ (m g top e n k word word′ : ℕ) where
         word′ ≡ bitOr word s → bit n word′ ≡ (bit n word || reaches m g top e n k)
     reach-more et p s es e′ =
         let q : inside (roster m) (presentIn e) k ≡ true = sym ew ∙ p in
-        rw (e′, bit-or n word s, es, q, eq-eqb g top et, and-yes (covers (roster m) (presentIn e) n k))
+        rw (e′, bit-or n word s, es, q, eq-eqb g top et, and-true (covers (roster m) (presentIn e) n k))
 
 -- the same for the words of all economies, gone over one by one
 module _ (m : ℕ) (rs : List ℕ) (g k : ℕ) (old : List ℕ) where
