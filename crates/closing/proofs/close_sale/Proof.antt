@@ -1,4 +1,5 @@
 -- `closing::close_sale` meets its contract.
+use native.Mathlib.Omega.{arith}
 use borrow.Author.Needs.{needs}
 use Rattle.tables.proofs.Tables.{buyers-fit}
 use Rattle.totals.proofs.Digits.{greatest-small}
@@ -9,9 +10,10 @@ use Rattle.closing.proofs.close_sale.Tie as tie
 payments-requires : tie.Need-payments-requires
 payments-requires c κs =
     let g = c .before .before .before in
-    let s = g .before .before .before .before in (
+    let s = g .before .before .before .before in
+    let fits = buyers-fit (s .args .low) in (
       s .pre .1,
-      buyers-fit (s .args .low) _ (s .pre .4),
+      omega (arith, fits _ (s .pre .3), fits _ (s .pre .4)),
       greatest-small (s .args .buyers) _ (g .greatest-totals .result) _ (g .greatest-totals .ensures .0)
           (g .greatest-totals .ensures .1),
     )
