@@ -5,7 +5,7 @@ use Rattle.theory.specs.Rounds.{after}
 use Rattle.owners.proofs.Bits.{house-laid-out}
 use Rattle.offers.specs.Rounds.{raised, roundLimit, startPrices, setsFrom, pricesFrom, saleSets, lastPrices}
 use Rattle.offers.specs.Rounds.{ownersBy, discountFor, paymentFor, directOwners, directPayment}
-use Rattle.offers.specs.House.{Row, Sold, HouseSales, soldAbove, keptAt, soldAt, keptAbove, loneBuyer, twoLots}
+use Rattle.offers.specs.House.{Row, Worked, HouseSales, soldAbove, keptAt, soldAt, keptAbove, loneBuyer, twoLots}
 
 -- the rounds are computed once, and what comes after at what they give
 sold : (r : Row) →
@@ -17,7 +17,7 @@ sold : (r : Row) →
     tabulate (r .offer .buyers) 1 (paymentFor (r .offer) (r .prices)) ≡ r .payments →
     directOwners (r .offer) ≡ r .owners →
     tabulate (r .offer .buyers) 1 (directPayment (r .offer)) ≡ r .payments →
-    Sold r
+    Worked r
 unfolding raised startPrices setsFrom pricesFrom saleSets lastPrices
 sold r limited rounds last owned discounted paid direct-owned direct-paid =
     let to = after (raised (r .offer)) (startPrices (r .offer)) in

@@ -45,7 +45,7 @@ pub record Row : Type 0 where
   pub payments : List ℕ
 
 -- the definitions give the row, and the direct way names the same owners and payments
-pub record Sold (r : Row) : Type 0 where
+pub record Worked (r : Row) : Type 0 where
   pub limited : roundLimit (r .offer) ≡ r .limit
   pub rounds : saleSets (r .offer) ≡ r .sets
   pub last : lastPrices (r .offer) ≡ r .prices
@@ -137,9 +137,9 @@ twoLots =
 pub record HouseSales : Type 0 where
   -- each bidder has a row and a bit of its own, the house the last of seven
   pub laid-out : (m : ℕ) → m ≤ 6 → LaidOut (layout 0 m) (bidders 0 m) 0 7
-  pub sold-above : Sold soldAbove
-  pub kept-at : Sold keptAt
-  pub sold-at : Sold soldAt
-  pub kept-above : Sold keptAbove
-  pub lone-buyer : Sold loneBuyer
-  pub two-lots : Sold twoLots
+  pub sold-above : Worked soldAbove
+  pub kept-at : Worked keptAt
+  pub sold-at : Worked soldAt
+  pub kept-above : Worked keptAbove
+  pub lone-buyer : Worked loneBuyer
+  pub two-lots : Worked twoLots

@@ -107,11 +107,12 @@ module _ (m n : ℕ) (few : m ≤ 6) (short : n ≤ 4) (os : List ℕ) (unsold :
 pub worth-small : (ws : List ℕ) (c i s : ℕ) → AtMost c ws → worthTable ws i s ≤ c
 worth-small ws c i s h = by-test (eqb s 0) (λ e. rw e (omega arith)) (λ e. rw e (h (16 * (i - 1) + s)))
 
--- so much at most is a bundle worth to six buyers
-pub limit-small : (m s : ℕ) → m ≤ 6 → (ws : List ℕ) → AtMost 9999 ws → sum m 1 (λ i. worthTable ws i s) ≤ 59994
-limit-small m s few ws small =
+-- so much at most are bundles worth, one to each of six buyers
+pub sum-small : (m : ℕ) (s : ℕ → ℕ) → m ≤ 6 → (ws : List ℕ) → AtMost 9999 ws →
+    sum m 1 (λ i. worthTable ws i (s i)) ≤ 59994
+sum-small m s few ws small =
     omega (
       arith,
       sum-const m 1 9999,
-      sum-mono m 1 (λ i. worthTable ws i s) (λ _. 9999) (λ i r. worth-small ws 9999 i s small),
+      sum-mono m 1 (λ i. worthTable ws i (s i)) (λ _. 9999) (λ i r. worth-small ws 9999 i (s i) small),
     )

@@ -18,7 +18,7 @@ use Rattle.theory.proofs.Lists.{most-bound, at-in, zeros-at}
 use Rattle.owners.specs.Owners.{zeroFirst}
 use Rattle.owners.specs.Prices.{buyerRows, price}
 use Rattle.owners.proofs.Owners.{allocation-from}
-use Rattle.owners.proofs.Singles.{singles-below, worth-small, limit-small}
+use Rattle.owners.proofs.Singles.{singles-below, worth-small, sum-small}
 use Rattle.sheet.specs.Sheets.{Sheet, sheetOf}
 use Rattle.sheet.specs.declared.Fault.{Fault}
 use Rattle.sheet.specs.Questions.{fault, sheetFault}
@@ -87,7 +87,8 @@ module _ (b : List ℕ) (accepted : sheetFault b .number ≡ 0) where
       omega (
         arith,
         sales.ascending O (regular b accepted) .few-rounds,
-        limit-small (w .buyers) (2 ^ w .lots - 1) (shape b accepted .few-buyers) (w .worths) (shape b accepted .small),
+        sum-small (w .buyers) (λ _. 2 ^ w .lots - 1) (shape b accepted .few-buyers) (w .worths)
+            (shape b accepted .small),
       )
 
   payment-small : (o o′ : List ℕ) (r : Sale) → SaleSays b o o′ r → r .number ≡ 0 → r ≡ settledSale O → (k : ℕ) →
@@ -205,7 +206,7 @@ prints-fit b o o′ r says =
 -- no sheet asks for more than 59,994 bytes of record
 pub limit-low : (b : List ℕ) → sheetFault b .number ≡ 0 → roundLimit (offerOf b) ≤ 59994
 limit-low b z =
-    limit-small (sheetOf b .buyers) (2 ^ sheetOf b .lots - 1) (shape b z .few-buyers) (sheetOf b .worths)
+    sum-small (sheetOf b .buyers) (λ _. 2 ^ sheetOf b .lots - 1) (shape b z .few-buyers) (sheetOf b .worths)
     (shape b z .small)
 
 -- with room for 59,994 rounds question 9 is answered yes

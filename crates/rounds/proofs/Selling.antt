@@ -4,7 +4,7 @@
 use mathlib.Core.Path.{_≡_, sym, ap, subst, _∙_}
 use mathlib.Core.Bool.{Bool}
 use mathlib.Core.List.{List}
-use Prim.Native.Nat.{ℕ, _+_, _-_, _*_, _^_, _≤_}
+use Prim.Native.Nat.{ℕ, _-_, _^_, _≤_}
 use native.Mathlib.Omega.{arith}
 use lib.Dec.{eqb}
 use lib.ListN.{length, getD}
@@ -13,18 +13,19 @@ use Rattle.theory.specs.Markets.{Table}
 use Rattle.theory.specs.Rounds.{choices, after}
 use Rattle.theory.specs.Auction.{Auction}
 use Rattle.theory.specs.Coalitions.{Values, holder, lowestBy}
-use Rattle.theory.proofs.Sums.{sum-mono, sum-const}
+use Rattle.theory.proofs.Sums.{sum-same}
 use Rattle.theory.proofs.Tests.{by-test}
 use Rattle.theory.proofs.Lists.{most-bound}
 use Rattle.theory.proofs.Coalitions.{exact-values, values-same}
 use Rattle.owners.specs.Owners.{member, number}
-use Rattle.owners.specs.Prices.{row, entry, buyerRows}
+use Rattle.owners.specs.Prices.{entry, buyerRows}
 use Rattle.owners.specs.Sales.{sets, lastPrices, limit}
 use Rattle.owners.specs.Quick.{left, rosterIn}
 use Rattle.owners.specs.Singles.{worthTable, AtMost}
 use Rattle.owners.proofs.Quick.{quick-rounds, quick-last, presents-are}
+use Rattle.owners.proofs.Prices.{entry-row}
 use Rattle.owners.proofs.Bits.{number-below, number-bit}
-use Rattle.owners.proofs.Singles.{limit-small}
+use Rattle.owners.proofs.Singles.{sum-small}
 use Rattle.offers.specs.Offers.{Offer, market, worthOf, judgedIn}
 use Rattle.offers.specs.Rounds.{setsFrom, pricesFrom}
 use Rattle.offers.specs.Claims.{Regular}
@@ -33,22 +34,20 @@ use Rattle.lists.specs.Words.{digit, wordsOf, Packed, Lent}
 use Rattle.totals.specs.Totals.{wordHolders, wordTotal, wordTotalBy}
 use Rattle.totals.proofs.Listed.{value-found}
 use Rattle.supply.specs.Supply.{shift, at}
-use Rattle.rounds.specs.Rounds.{Tables, KeptAt, Opens, Own, Sold, lowestAt, stepAt}
+use Rattle.rounds.specs.Rounds.{Tables, KeptAt, Opens, OwnPrices, Sold, lowestAt, stepAt}
 use Rattle.rounds.proofs.Going.{Going, Done}
 
 -- the values that the words of all allocations give, and that they are small
 abbrev pub Valued : ℕ → List ℕ → List ℕ → List ℕ → Type 0
 Valued m ws list values = (k : ℕ) → getD values k 0 ≡ most (wordTotalBy 1 m ws k) list
 
-entry-small : (ws : List ℕ) (i s : ℕ) → AtMost 9999 ws → entry ws i s ≤ 9999
-entry-small ws i s h = by-test (eqb s 0) (λ e. rw e (omega arith)) (λ e. rw e (h (16 * row i + s)))
-
 total-small : (m : ℕ) (ws : List ℕ) (w : ℕ) → m ≤ 6 → AtMost 9999 ws → wordTotal 1 m ws w ≤ 59994
 total-small m ws w few h =
     omega (
       arith,
-      sum-const m 1 9999,
-      sum-mono m 1 (λ i. entry ws i (digit i w)) (λ _. 9999) (λ i r. entry-small ws i (digit i w) h),
+      sum-same m 1 (λ i. entry ws i (digit i w)) (λ i. worthTable ws i (digit i w))
+          (λ i r. entry-row 1 6 i (omega arith) ws (digit i w)),
+      sum-small m (λ i. digit i w) few ws h,
     )
 
 pub valued-small : (m : ℕ) (ws list values : List ℕ) → m ≤ 6 → AtMost 9999 ws → Valued m ws list values →
@@ -77,7 +76,7 @@ module _ (m all n : ℕ) (share : ℕ → ℕ) (al : List (List ℕ)) (ws : List
   module _
       (few : m ≤ 6) (small : AtMost 9999 ws) (regular : Regular offer) (packed : Packed offer) (list : List ℕ)
       (words : list ≡ wordsOf offer) (values : List ℕ) (valued : Valued m ws list values) (l : ℕ) (judged : l ≤ m)
-      (start : List ℕ) (own : Own offer start) (f : ℕ) where
+      (start : List ℕ) (own : OwnPrices offer start) (f : ℕ) where
     abbrev X : Auction (List ℕ)
     X = judgedIn offer l
 
@@ -108,7 +107,7 @@ module _ (m all n : ℕ) (share : ℕ → ℕ) (al : List (List ℕ)) (ws : List
         )))
 
     wide : limit X (buyerRows m) all v ≤ shift
-    wide = omega (arith, limit-small m (all - 1) few ws small)
+    wide = omega (arith, sum-small m (λ _. all - 1) few ws small)
 
     agrees : Agrees (rosterIn m l .presents)
     unfolding Agrees
@@ -150,7 +149,7 @@ offer-is {O} {ws = ws} {m} {all} lent =
 pub sold : {m l all f : ℕ} {ws start list o ps′ o′ : List ℕ} {k : ℕ} (values : List ℕ) →
     Opens m l all ws start f o →
     Valued m ws list values → Done (lowestAt m l (all - 1) ws values) (stepAt m all ws) f start o ps′ o′ k →
-    (O : Offer) → Lent O list ws 1 m all → Own O start → Sold O l start f o ps′ o′ k
+    (O : Offer) → Lent O list ws 1 m all → OwnPrices O start → Sold O l start f o ps′ o′ k
 sold {m} {l} {all} {f} {ws} {start} {list} {o} {ps′} {o′} {k} values opens valued done O lent own =
     let same = offer-is lent in
     let back : (P : Offer → Type 0) → P O → P (offer m all (O .lots) (O .share) (O .lists) ws) =
@@ -158,4 +157,4 @@ sold {m} {l} {all} {f} {ws} {start} {list} {o} {ps′} {o′} {k} values opens v
     subst (λ O. Sold O l start f o ps′ o′ k) same
     (sold-by m all (O .lots) (O .share) (O .lists) ws (opens .few) (opens .small) (back Regular (lent .regular))
     (back Packed (lent .packed)) list (back (λ O. list ≡ wordsOf O) (lent .words)) values valued l (opens .judged) start
-    (back (λ O. Own O start) own) f done)
+    (back (λ O. OwnPrices O start) own) f done)

@@ -1,6 +1,6 @@
 -- Rounds as the code takes them, judged in the economies 0 to l. Offers `lowestAt` and `stepAt`, the choice and the
 -- raise by coalition values, what is kept from round to round (`KeptAt`), and what the functions ask (`Ready`, `Small`,
--- `Opens`, `Own`) and answer (`Round`, `TurnAt`, `Sold`); `Sold` is by the definition's rounds alone.
+-- `Opens`, `OwnPrices`) and answer (`Round`, `TurnAt`, `Sold`); `Sold` is by the definition's rounds alone.
 use mathlib.Core.Path.{_≡_}
 use mathlib.Core.Bool.{Bool}
 use mathlib.Core.List.{List}
@@ -96,8 +96,8 @@ pub record Opens (m l all : ℕ) (ws ps : List ℕ) (f : ℕ) (o : List ℕ) : T
   pub rise : most + f ≤ 60000
 
 -- the prices are those of some payoffs, as in a sale
-abbrev pub Own : Offer → List ℕ → Type 0
-Own O ps = (π : ℕ → ℕ) × Holds (market O) (layout O) (O .bundles) (O .bundles - 1) (worthOf O) ps π
+abbrev pub OwnPrices : Offer → List ℕ → Type 0
+OwnPrices O ps = (π : ℕ → ℕ) × Holds (market O) (layout O) (O .bundles) (O .bundles - 1) (worthOf O) ps π
 
 -- and what they answer: prices and record after them, and how many there were
 pub record Sold (O : Offer) (l : ℕ) (ps : List ℕ) (f : ℕ) (o ps′ o′ : List ℕ) (n : ℕ) : Type 0 where

@@ -7,7 +7,7 @@ ghost use Rattle.owners.specs.Singles.{AtMost};
 ghost use Rattle.offers.specs.Offers.{Offer};
 ghost use Rattle.lists.specs.Words.{Lent};
 ghost use Rattle.raising.specs.Raising.{Rows};
-ghost use Rattle.rounds.specs.Rounds.{tables, Ready, Small, TurnAt, Opens, Own, Sold};
+ghost use Rattle.rounds.specs.Rounds.{tables, Ready, Small, TurnAt, Opens, OwnPrices, Sold};
 
 // Writes a set's number to the next byte of the record, the first of the rest (rule 4.12).
 fn note(rest: &mut [u8], number: usize)
@@ -68,7 +68,7 @@ pub fn run_rounds(
 ) -> u32
     requires { ⌜ Opens buyers last bundles (now worths) (now prices) limit (now log) ⌝ }
     ensures { λ r. ⌜ ((O : Offer) → Lent O (now (list .entry)) (now (worths .entry)) 1 buyers bundles →
-        Own O (now (prices .entry)) → Sold O last (now (prices .entry)) limit (now (log .entry))
+        OwnPrices O (now (prices .entry)) → Sold O last (now (prices .entry)) limit (now (log .entry))
         (now (prices .exit)) (now (log .exit)) r) ⌝ }
 {
     let values = totals::values(list, worths, 1, buyers);

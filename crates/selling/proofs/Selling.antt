@@ -11,11 +11,11 @@ use borrow.Author.Tests.{le-leb, lt-leb}
 use Rattle.theory.specs.Lists.{over}
 use Rattle.theory.proofs.Lists.{zeros-at}
 use Rattle.numbers.proofs.Numbers.{pow-small}
-use Rattle.owners.proofs.Singles.{limit-small}
+use Rattle.owners.proofs.Singles.{sum-small}
 use Rattle.owners.proofs.Sales.{begins}
 use Rattle.closing.specs.declared.Closing.{Closing}
 use Rattle.closing.specs.Closings.{saleClosing}
-use Rattle.rounds.specs.Rounds.{Opens, Own, Sold}
+use Rattle.rounds.specs.Rounds.{Opens, OwnPrices, Sold}
 use Rattle.sheet.specs.declared.Worths.{Worths}
 use Rattle.sheet.specs.Sheets.{Sheet}
 use Rattle.sheet.specs.Questions.{fault}
@@ -54,11 +54,11 @@ module _ {m n : ℕ} {ws : List ℕ} (sells : Sells m n ws) where
         room = room;
         most = 0;
         low = λ k. omega (arith, zeros-at 96 k);
-        rise = omega (arith, limit-small m (2 ^ n - 1) (sells .few-buyers) ws (sells .small));
+        rise = omega (arith, sum-small m (λ _. 2 ^ n - 1) (sells .few-buyers) ws (sells .small));
       }
 
   -- a sale's first prices are those of the worths of all lots
-  pub starts-own : Own (lotsAmong m n ws) (replicate 96 0)
+  pub starts-own : OwnPrices (lotsAmong m n ws) (replicate 96 0)
   starts-own =
       let O = lotsAmong m n ws in (
         _,
@@ -69,7 +69,7 @@ module _ {m n : ℕ} {ws : List ℕ} (sells : Sells m n ws) where
 -- the rounds and the closing make up the settled sale
 pub sold-settled : (m n : ℕ) (ws l o ps o′ : List ℕ) (f all k : ℕ) → Sells m n ws → l ≡ lotWords m n → all ≡ 2 ^ n →
     f ≡ roundLimit (lotsAmong m n ws) →
-    ((O : Offer) → Lent O l ws 1 m all → Own O (replicate 96 0) → Sold O m (replicate 96 0) f o ps o′ k) →
+    ((O : Offer) → Lent O l ws 1 m all → OwnPrices O (replicate 96 0) → Sold O m (replicate 96 0) f o ps o′ k) →
     (c : Closing) → ((O : Offer) → Lent O l ws 1 m all → c ≡ saleClosing O ps) →
     (a : Sale) → a ≡ soldBy m n k ps c →
     (a ≡ settledSale (lotsAmong m n ws)) × (o′ ≡ over (saleSets (lotsAmong m n ws)) o)

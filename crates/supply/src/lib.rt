@@ -1,5 +1,6 @@
 // The lowest undersupplied set, by the gains of sets, the revenues of economies and what buyers have left, which a sale
-// keeps from round to round. A set of sets is a word of 64 bits: bit n is for the set of number n.
+// keeps from round to round. A set of sets is a word of 64 bits: bit n is for the set of number n. Sets are judged in
+// the economies from 0, that of all, to `last`.
 ghost use mathlib.Core.Path.{_≡_};
 ghost use mathlib.Core.Bool.{true, not, _&&_};
 ghost use Prim.Native.Nat.{_+_, _^_, _≤_, _<_};

@@ -1,6 +1,6 @@
 -- The outcome: at settled prices owners and payments are the direct way's (`same-owners`, `same-payment`), nothing is
--- cut off (`payment-exact`, `direct-pays`), and neither way does a bidder gain by another table than its true one
--- (`no-gain-direct`, `no-gain-settled`). Assumes an allocation, and for payments a bidder that can be left out.
+-- cut off (`payment-exact`, `direct-pays`), and the direct way no bidder gains by another table than its true one
+-- (`no-gain-direct`). Assumes an allocation, and for payments a bidder that can be left out.
 use mathlib.Core.Path.{_≡_}
 use mathlib.Core.Logic.{_≢_}
 use mathlib.Core.List.{List}
@@ -57,16 +57,3 @@ module _ {A : Type 0} (X : Auction A) (al : List A) {a : A} (m : a ∈ al) (d : 
         no-gain M i (leaving .bidder) al al-i v w others absent
         (directOwners v) (direct-in M w m d) (direct-efficient M w m d) _ _
         (direct-pays i al-i leaving v proper) (direct-pays i al-i leaving w proper′)
-
-    -- two sales, each at settled prices of its own
-    pub no-gain-settled : whole al ∈ X .economies → Marginal X al i al-i →
-        (b b′ : ℕ → ℕ) (q q′ : Quote) → Settlement X v b q → Settlement X w b′ q′ →
-        v i (M .holds (owners q′) i) + pricePay M (q .prices) i al al-i (owners q) ≤
-        v i (M .holds (owners q) i) + pricePay M (q′ .prices) i al al-i (owners q′)
-    no-gain-settled all buyer b b′ q q′ at at′ =
-        rw (
-          same-payment all v b q at i al-i buyer,
-          same-payment all w b′ q′ at′ i al-i buyer,
-          same-owners all v b q at,
-          same-owners all w b′ q′ at′,
-        ) (no-gain-direct (buyer .leaving) (at .proper) (at′ .proper))

@@ -1,6 +1,6 @@
 -- What stands in a word is what stands in the allocation, so that loops over the words of an offer find what the
 -- definitions say of its allocations: the greatest total of an economy (`greatest-found`), the first list that passes
--- (`owners-found`, `bundle-found`), and the values of sets (`value-found`).
+-- (`owners-found`, `bundle-found`), the values of sets (`value-found`), and question 9's sum (`limit-found`).
 use mathlib.Core.Path.{_≡_, refl, ap, ap₂, _∙_}
 use mathlib.Core.Bool.{Bool, not, _||_}
 use mathlib.Core.List.{List, []}

@@ -20,7 +20,7 @@ use Rattle.sheet.specs.Questions.{sheetFault}
 use Rattle.sheet.specs.Answers.{worthsRead}
 use Rattle.sheet.proofs.Forms.{asked-yes}
 use Rattle.sheet.proofs.Theorems.{accepted-shape}
-use Rattle.owners.proofs.Singles.{limit-small}
+use Rattle.owners.proofs.Singles.{sum-small}
 use Rattle.sale.specs.declared.Sale.{Sale}
 use Rattle.offers.specs.Offers.{offerOf}
 use Rattle.offers.specs.Rounds.{roundLimit}
@@ -90,4 +90,5 @@ module _ (N m n top : ℕ) (o o′ : List ℕ) (r : Wrote) (says : TrialSays N m
   pub trial-record : roundLimit (offerOf b) ≤ 59994
   trial-record =
       let shape = accepted-shape b accepted in
-      limit-small (sheetOf b .buyers) (2 ^ sheetOf b .lots - 1) (shape .few-buyers) (sheetOf b .worths) (shape .small)
+      sum-small (sheetOf b .buyers) (λ _. 2 ^ sheetOf b .lots - 1) (shape .few-buyers) (sheetOf b .worths)
+      (shape .small)
