@@ -1,6 +1,8 @@
 // The closing at prices: the owners, discounts and payments; and whether prices are settled. Both by loops over the
 // words of all allocations. Worths and prices are tables of sixteen numbers to a bidder, prices any; bidders go from
 // `low` to `buyers`, at most 6.
+#![tactic(auto)]
+
 ghost use Rattle.std.specs.Prelude.{◌≡◌, ◌+◌, ◌*◌, ◌≤◌, eqb, length};
 ghost use Rattle.theory.specs.Lists.{first};
 ghost use Rattle.theory.specs.Tests.{every};

@@ -1,6 +1,8 @@
 // What a bidder demands at prices: payoffs, the greatest payoff, the demand set, keenness. Worths and prices are tables
 // of sixteen numbers to a bidder, prices any; bundles are at most 16. Payoffs are kept 65,535 higher, so that none is
 // negative.
+#![tactic(auto)]
+
 ghost use Rattle.std.specs.Prelude.{◌≡◌, ◌≤◌, ◌<◌};
 ghost use Rattle.numbers.specs.Numbers.{Is};
 ghost use Rattle.owners.specs.Prices.{entry, layout, payoff, best, demand_set};

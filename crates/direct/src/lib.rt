@@ -1,5 +1,7 @@
 // The direct way of reckoning the sale of a lot sheet (Vickrey, Clarke and Groves), from the worths alone: the first
 // owner list of greatest total, and what each buyer pays.
+#![tactic(auto)]
+
 ghost use Rattle.std.specs.Prelude.{◌≡◌, ℕ, ◌*◌, ◌≤◌, length};
 ghost use Rattle.owners.specs.Prices.{rows};
 ghost use Rattle.sheet.specs.Questions.{fault};

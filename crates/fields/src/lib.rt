@@ -1,4 +1,6 @@
 // Reads one field of a lot sheet: a number right-justified in six columns.
+#![tactic(auto)]
+
 ghost use Rattle.std.specs.Prelude.{◌≡◌, ◌+◌, ◌≤◌, length, take, drop, get_or};
 ghost use Rattle.fields.specs.Claims.{Fields};
 ghost use Rattle.fields.specs.Fields.{field_from, field_at, field_read, good, number_at, running_at};

@@ -1,4 +1,6 @@
 // Marsaglia's xorwow: a generator of numbers of 32 bits that anyone can run again.
+#![tactic(auto)]
+
 ghost use Rattle.std.specs.Prelude.{◌≡◌};
 ghost use Rattle.generator.specs.Xorwow.{drawn, after};
 ghost use Rattle.generator.specs.Claims.{Draws};

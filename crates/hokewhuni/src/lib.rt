@@ -1,4 +1,6 @@
 // What crosses the C boundary: slices as a pointer and a length, structs by value, no enum.
+#![tactic(auto)]
+
 ghost use Rattle.std.specs.Prelude.{◌≡◌};
 ghost use Rattle.sheet.specs.Answers.{sheet_read, worths_read};
 ghost use Rattle.sale.specs.Answers.{demand_answer, settled_answer, SaleSays};

@@ -1,4 +1,6 @@
 // The lines of worths of a lot sheet: where their places are, the numbers in them, questions 6 to 8.
+#![tactic(auto)]
+
 ghost use Rattle.std.specs.Prelude.{◌≡◌, [], ◌+◌, ◌*◌, ◌/◌, ◌%◌, ◌^◌, ◌≤◌, ◌<◌};
 ghost use Rattle.numbers.specs.Numbers.{Is};
 ghost use Rattle.sheet.specs.Sheets.{line_length, offset, as_sheet, worth_place, worths_in};

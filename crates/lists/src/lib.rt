@@ -1,5 +1,7 @@
 // The list of all allocations, each as one word, in a lent table. A word has four bits for each bidder's bundle (0 to
 // 6, what nobody owns is 0's) and four for the owner of each place.
+#![tactic(auto)]
+
 ghost use Rattle.std.specs.Prelude.{◌≡◌, ◌+◌, ◌-◌, ◌*◌, ◌^◌, ◌≤◌, ◌<◌, length, take, set};
 ghost use Rattle.theory.specs.Lists.{over};
 ghost use Rattle.numbers.specs.Numbers.{Is};

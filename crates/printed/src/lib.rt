@@ -1,4 +1,6 @@
 // A sale printed in lines of fields.
+#![tactic(auto)]
+
 ghost use Rattle.std.specs.Prelude.{◌≡◌, [], ◌∷◌, ◌*◌, ◌≤◌, ◌<◌, length};
 ghost use Rattle.theory.specs.Lists.{tabulate, over};
 ghost use Rattle.numbers.specs.Numbers.{Is};

@@ -1,4 +1,6 @@
 // Numbers printed in fields of six columns, and lines of fields.
+#![tactic(auto)]
+
 ghost use Rattle.std.specs.Prelude.{◌≡◌, ◌||◌, ℕ, ◌*◌, ◌≤◌, ◌<◌, eqb, leb, length, get_or};
 ghost use Rattle.theory.specs.Lists.{over};
 ghost use Rattle.fields.specs.Fields.{columns, line_of};

@@ -1,4 +1,6 @@
 // The three demands, and what meets the conditions of theorems, as one contract.
+#![tactic(auto)]
+
 ghost use Rattle.promises.specs.Claims.{Promises};
 ghost use Rattle.promises.specs.Witnesses.{Witnesses};
 

@@ -1,4 +1,6 @@
 // Reads a lot sheet: questions 1 to 8, and its worths.
+#![tactic(auto)]
+
 ghost use Rattle.std.specs.Prelude.{◌≡◌, ◌≤◌, length};
 ghost use Rattle.sheet.specs.Questions.{between};
 ghost use Rattle.sheet.specs.Answers.{refusal, sheet_read, worths_read};

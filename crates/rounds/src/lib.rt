@@ -1,5 +1,7 @@
 // The rounds of a sale, by the values of the sets of buyers. What each buyer has left, the gains of the sets and the
 // revenues of the economies are kept from round to round.
+#![tactic(auto)]
+
 ghost use Rattle.std.specs.Prelude.{◌≡◌, ◌<◌, length, set};
 ghost use Rattle.owners.specs.Singles.{AtMost};
 ghost use Rattle.offers.specs.Offers.{Offer};

@@ -1,5 +1,7 @@
 // What sales, demand answers and the question whether prices are settled answer, and their refusals. The meaning is in
 // specs/, the theorems in proofs/.
+#![tactic(auto)]
+
 ghost use Rattle.std.specs.Prelude.{◌≡◌};
 ghost use Rattle.sheet.specs.Questions.{fault};
 ghost use Rattle.offers.specs.House.{HouseSales};

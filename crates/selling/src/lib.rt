@@ -1,4 +1,6 @@
 // Sales by rounds of a lot sheet, demand answers, and whether prices are settled.
+#![tactic(auto)]
+
 ghost use Rattle.std.specs.Prelude.{◌≡◌, ◌≤◌, length};
 ghost use Rattle.theory.specs.Lists.{over};
 ghost use Rattle.offers.specs.Offers.{lots_among};

@@ -1,4 +1,6 @@
 // What is read of a lot sheet. The meaning is in specs/, the theorems in proofs/; `lines` and `reading` have the code.
+#![tactic(auto)]
+
 ghost use Rattle.sheet.specs.Claims.{Sheets};
 
 // A refusal's number and place; 0 and 0 for none.

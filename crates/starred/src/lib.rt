@@ -1,4 +1,6 @@
 // The starred sales and the printed examples as one contract.
+#![tactic(auto)]
+
 ghost use Rattle.starred.specs.Starred.{Starred};
 ghost use Rattle.starred.specs.Example.{Example};
 

@@ -1,6 +1,8 @@
 // The lowest undersupplied set, by the gains of sets, the revenues of economies and what buyers have left, which a sale
 // keeps from round to round. A set of sets is a word of 64 bits: bit n is for the set of number n. Sets are judged in
 // the economies from 0, that of all, to `last`.
+#![tactic(auto)]
+
 ghost use Rattle.std.specs.Prelude.{◌≡◌, true, not, ◌&&◌, ◌+◌, ◌^◌, ◌≤◌, ◌<◌, length};
 ghost use Rattle.theory.specs.Tests.{every, least};
 ghost use Rattle.theory.specs.Coalitions.{payoff_of, inside, covers};

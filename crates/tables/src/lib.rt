@@ -1,5 +1,7 @@
 // What stands in a table of prices or worths for a bidder and a bundle. Tables have sixteen numbers to a row: six rows
 // for the buyers, and a seventh where there is a house.
+#![tactic(auto)]
+
 ghost use Rattle.std.specs.Prelude.{◌+◌, ◌*◌, ◌≤◌, ◌<◌, length};
 ghost use Rattle.numbers.specs.Numbers.{Is};
 ghost use Rattle.owners.specs.Prices.{row, entry};

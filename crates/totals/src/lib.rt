@@ -1,5 +1,7 @@
 // Totals of allocations, by loops over a list of their words. Tables have sixteen numbers to a bidder; bidders go from
 // `low`, 1 for the buyers only and 0 with the house, to `buyers`, at most 6.
+#![tactic(auto)]
+
 ghost use Rattle.std.specs.Prelude.{◌≡◌, ℕ, max, ◌*◌, ◌≤◌, ◌<◌, eqb, length, get_or};
 ghost use Rattle.theory.specs.Sums.{when};
 ghost use Rattle.theory.specs.Lists.{most, first};

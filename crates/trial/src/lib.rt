@@ -1,4 +1,6 @@
 // Makes a trial sheet from a generator: whoever has its four numbers makes the same sheet.
+#![tactic(auto)]
+
 ghost use Rattle.std.specs.Prelude.{◌≡◌, ℕ, ◌+◌, ◌≤◌, ◌<◌, length, get_or};
 ghost use Rattle.numbers.specs.Numbers.{Is};
 ghost use Rattle.trial.specs.Worths.{row_worth, worth_without, most_fewer, drawn_worth, most_worths};

@@ -1,3 +1,5 @@
+#![tactic(auto)]
+
 use writing::SheetText;
 
 // Prints the trial sheet of four numbers, or the line of its refusal: standard input, which has to be 24 bytes, four

@@ -1,4 +1,6 @@
 // Writes a lot sheet from a list of numbers in the sheet's order.
+#![tactic(auto)]
+
 ghost use Rattle.std.specs.Prelude.{◌≡◌, min, ◌+◌, ◌-◌, ◌*◌, ◌/◌, ◌^◌, ◌≤◌, ◌<◌, length};
 ghost use Rattle.theory.specs.Lists.{over};
 ghost use Rattle.numbers.specs.Numbers.{Is};
