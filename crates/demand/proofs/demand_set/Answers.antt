@@ -1,0 +1,18 @@
+use Rattle.std.proofs.Common.{◌<◌}
+use Rattle.demand.specs.Demands.{quoted}
+use Rattle.demand.proofs.Loops.{gathered_in, gathered_out}
+use Rattle.demand.proofs.demand_set.Goals as goal
+use Rattle.demand.proofs.demand_set.Goals.{then-wants, else-wants}
+
+pub loop-s-preserved : goal.loop-s-preserved
+loop-s-preserved c =
+    let wants = (quoted c.args.bundles c.args.worths.now c.args.prices.now).wants c.args.i in
+    let h : c.loop-s.s < c.args.bundles = c.loop-s-test.true in
+    elim c.if-wants.branch [
+      | then-wants w ↦
+          gathered_in wants c.args.bundles c.loop-s.s c.loop-s.set _ c.loop-s.invariant h c.wants.result
+          c.wants.ensures c.if-wants.set w.if-wants.true w.power-set.result w.power-set.ensures.is w.set-is
+      | else-wants w ↦
+          gathered_out wants c.args.bundles c.loop-s.s c.loop-s.set _ c.loop-s.invariant h c.wants.result
+          c.wants.ensures c.if-wants.set w.if-wants.false w.set-is
+    ]
