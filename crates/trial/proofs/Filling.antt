@@ -1,7 +1,7 @@
 -- The list of worths as it is filled, place by place: what stands in it of the buyer at hand is that buyer's row so far
 -- (`filled_row`), and the next worth is raised by the next draw (`filled_next`). Assumes that the places before are
 -- filled.
-use mathlib.Core.Path.{◌≡◌, refl, sym, ap, ap₂, ◌∙◌}
+use mathlib.Core.Path.{◌≡◌, sym, ap, ap₂, ◌∙◌}
 use mathlib.Core.List.{List}
 use Prim.Native.Nat.{ℕ, suc, ◌+◌, ◌-◌, ◌*◌, ◌/◌, ◌%◌, ◌^◌, ◌≤◌, ◌<◌}
 use native.Mathlib.Nat.{div-add-mod'}
@@ -13,14 +13,17 @@ use Rattle.theory.proofs.Loops.{Filled}
 use Rattle.numbers.proofs.Numbers.{place_below, count-line, count_place}
 use Rattle.generator.specs.declared.Generator.{Generator}
 use Rattle.generator.specs.Xorwow.{drawn, after, draw_number}
-use Rattle.trial.specs.Worths.{row_worth, drawn_worth, most_fewer, row_up_to, draw_for, trial_at}
+use Rattle.trial.specs.Worths.{row_worth, drawn_worth, most_fewer, row_up_to, draw_for, trial_table, trial_at}
 use Rattle.trial.proofs.Rows.{row-length, row_last, row_kept}
 
 module _ (N n top size : ℕ) (is : size ≡ 2 ^ n - 1) (some : 1 ≤ size) where
   -- place c of line i, from 0 on, in the list
   pub trial_place : (i c : ℕ) → c < size →
       trial_at N n top (i * size + c) ≡ get_or (row_up_to n top (draw_for N n i) (suc c)) c 0
-  trial_place i c less = rw (← is) (rw (count-line size some i c less, count_place size some i c less) refl)
+  trial_place i c less =
+      let line : (i * size + c) / (2 ^ n - 1) ≡ i = rw (← is) (count-line size some i c less) in
+      let at : (i * size + c) % (2 ^ n - 1) ≡ c = rw (← is) (count_place size some i c less) in
+      ap₂ (λ x y. trial_table N n top x (suc y)) line at
 
   module _ (k : ℕ) (t : List ℕ) (low : k < 90) (filled : Filled (trial_at N n top) 90 k t) where
     abbrev i : ℕ
