@@ -1,0 +1,20 @@
+-- `supply::everywhere` meets its contract. The invariant: a set is in the word, and in those of the economies from e
+-- on, exactly if it is in all.
+use Rattle.std.proofs.Common.{◌≡◌, ◌&&◌, List, Bool, ℕ, ◌+◌, ◌-◌, ◌≤◌, ◌<◌}
+use Rattle.theory.specs.Tests.{every}
+use Rattle.numbers.specs.Numbers.{bit}
+use Rattle.supply.specs.Supply.{at}
+use Rattle.supply.proofs.everywhere.Given as goal
+
+-- whether set n is in the word of economy e
+abbrev pub within : List ℕ → ℕ → ℕ → Bool
+within words n e = bit n (at words e)
+
+abbrev pub invariant-loop-e : goal.invariant-loop-e
+invariant-loop-e l =
+    (l.e ≤ l.last + 1)
+    × ((n : ℕ) → n < 64 →
+    (bit n l.word && every (l.last + 1 - l.e) l.e (within l.words n)) ≡ every (l.last + 1) 0 (within l.words n))
+
+abbrev pub decreases-loop-e : goal.decreases-loop-e
+decreases-loop-e l = l.last + 1 - l.e

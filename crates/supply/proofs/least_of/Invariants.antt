@@ -1,0 +1,10 @@
+-- `supply::least_of` meets its contract. The invariant: no revenue before e is less.
+use Rattle.std.proofs.Common.{ℕ, ◌+◌, ◌-◌, ◌≤◌, ◌<◌}
+use Rattle.supply.specs.Supply.{at}
+use Rattle.supply.proofs.least_of.Given as goal
+
+abbrev pub invariant-loop-e : goal.invariant-loop-e
+invariant-loop-e l = (l.e ≤ l.last + 1) × ((j : ℕ) → j < l.e → l.least ≤ at l.revenues j)
+
+abbrev pub decreases-loop-e : goal.decreases-loop-e
+decreases-loop-e l = l.last + 1 - l.e
