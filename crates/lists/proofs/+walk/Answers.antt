@@ -1,0 +1,110 @@
+use Rattle.std.proofs.Common.{◌≡◌, List, ℕ, ◌+◌, ◌-◌, ◌^◌, ◌≤◌, length, take, ap, sym, ◌∙◌, arith}
+use lib.ListN.{length-take, length-drop}
+use Rattle.theory.specs.Lists.{over}
+use Rattle.theory.proofs.Over.{over_long, over_then}
+use Rattle.lists.specs.Words.{share_in}
+use Rattle.lists.proofs.Walks.{written, whole, whole_length, written_length, written_all}
+use Rattle.lists.proofs.Walks.{written_next, begun_next, written_room, next_room, next_count, whole-count}
+use Rattle.lists.proofs.+walk.Goals as goal
+use Rattle.lists.proofs.+walk.Goals.{After-with_owner-next}
+
+-- what is written so far, and its length
+module _ {t : ℕ} (c : After-with_owner-next t) where
+  abbrev many : ℕ
+  many = length c.args.order.now
+
+  abbrev begun : List ℕ
+  begun = take (c.args.lots - c.args.left) c.args.owners
+
+  abbrev so_far : List ℕ
+  so_far = written (share_in c.args.shares.now) c.args.order.now begun c.loop-i.i (c.args.left - 1)
+
+  here : length so_far ≡ c.loop-i.at
+  here =
+      written_length (share_in c.args.shares.now) c.args.order.now begun c.loop-i.i (c.args.left - 1)
+      c.loop-i.invariant.0
+      ∙ sym c.loop-i.invariant.1
+
+  fits : c.loop-i.at ≤ length c.args.out.now
+  fits =
+      omega (
+        arith,
+        c.loop-i.invariant.1,
+        written_room many c.loop-i.i c.args.left (length c.args.out.now) c.if-left-eq0.false (omega arith)
+            c.loop-i.invariant.0,
+      )
+
+  long : length c.loop-i.out ≡ length c.args.out.now
+  long = ap length c.loop-i.invariant.2 ∙ over_long so_far c.args.out.now (omega (arith, here, fits))
+
+  fits_more : c.loop-i.at + many ^ (c.args.left - 1) ≤ length c.args.out.now
+  fits_more =
+      omega (
+        arith,
+        c.loop-i.invariant.1,
+        next_room many c.loop-i.i c.args.left (length c.args.out.now) c.if-left-eq0.false (omega arith)
+            (omega arith),
+      )
+
+pub offset_bounds-out-at : goal.offset_bounds-out-at
+offset_bounds-out-at t c =
+    let a = (goal.at.offset_bounds-out-at t c).After-with_owner-next in omega (arith, long a, fits a)
+
+pub slice_bounds-walk-count : goal.slice_bounds-walk-count
+slice_bounds-walk-count t c =
+    let a = (goal.at.slice_bounds-walk-count t c).After-with_owner-next in omega (arith, long a, fits a)
+
+pub slice_bounds-walk-start : goal.slice_bounds-walk-start
+slice_bounds-walk-start t c =
+    let a = (goal.at.slice_bounds-walk-start t c).After-with_owner-next in omega (arith, long a, fits a)
+
+pub walk-n-requires : goal.walk-n-requires
+walk-n-requires t c =
+    let a = (goal.at.walk-n-requires t c).After-with_owner-next in (
+      omega arith,
+      (
+        c.requires.0,
+        c.requires.1,
+        c.with_owner-next.ensures.1,
+        omega arith,
+        omega arith,
+        omega arith,
+        simp (length-take, length-drop) (omega (arith, long a, fits_more a)),
+      ),
+    )
+
+pub overflow_add-at : goal.overflow_add-at
+overflow_add-at t c =
+    let a = (goal.at.overflow_add-at t c).After-with_owner-next in
+    omega (arith, long a, fits_more a, c.walk-n.ensures.0)
+
+pub loop-i-preserved : goal.loop-i-preserved
+loop-i-preserved t c =
+    let a = (goal.at.loop-i-preserved t c).After-with_owner-next in
+    let z = c.args in
+    let l = c.loop-i in
+    let next = c.with_owner-next in
+    let share = share_in z.shares.now in
+    let pre = take (z.lots - (z.left - 1)) next.result in (
+      omega arith,
+      omega (arith, l.invariant.1, c.walk-n.ensures.0, next_count (many a) l.i z.left 0 c.if-left-eq0.false),
+      over_then (so_far a) (whole share z.order.now pre (z.left - 1)) z.out.now l.out _ l.at (here a)
+          (omega (arith, whole_length share z.order.now pre (z.left - 1), fits_more a)) l.invariant.2
+          c.walk-n.ensures.1
+          ∙ ap (λ l. over l z.out.now)
+          (sym (written_next share z.order.now (begun a) pre l.i (z.left - 1) (omega arith)
+          (begun_next z.owners z.lots z.left next.result _ next.ensures.0 c.if-left-eq0.false
+          (omega arith) (omega arith)))),
+    )
+
+pub returns : goal.returns
+returns t c =
+    let z = c.args in
+    let l = c.loop-i in
+    let many = length z.order.now in (
+      l.invariant.1 ∙ whole-count many l.i z.left 0 c.if-left-eq0.false (omega arith),
+      l.invariant.2
+          ∙ ap (λ l. over l z.out.now)
+          (written_all (share_in z.shares.now) z.order.now (take (z.lots - z.left) z.owners) l.i z.left
+          c.if-left-eq0.false (omega arith)),
+    )
