@@ -11,7 +11,6 @@ use native.Mathlib.Decide.{ℕ_discrete, dec_le}
 use lib.Dec.{ltb}
 use lib.ListN.{length, take, drop, get_or}
 use borrow.Author.Tests.{ltb-true, ltb-false, lt-ltb, leb-false, not-true}
-use Rattle.theory.specs.Tests.{least}
 use Rattle.theory.proofs.Tests.{by_test, fails, Means, means_via, itself, and_means, imp_means, not_means, eqb_means}
 use Rattle.theory.proofs.Tests.{leb_means, imp_fails, every_means, every_fails, least_none, least_found}
 use Rattle.fields.specs.declared.Field.{Field}
