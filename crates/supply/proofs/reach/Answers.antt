@@ -1,7 +1,8 @@
 use Rattle.std.proofs.Common.{arith}
 use Rattle.supply.proofs.Choosing.{joins_lower, joins_outside, joins_more}
 use Rattle.supply.proofs.reach.Goals as goal
-use Rattle.supply.proofs.reach.Goals.{then-gain-revenues+then-is_inside, then-gain-revenues+else-is_inside, else-gain-revenues}
+use Rattle.supply.proofs.reach.Goals.{then-gain-revenues+then-is_inside, then-gain-revenues+else-is_inside}
+use Rattle.supply.proofs.reach.Goals.{else-gain-revenues}
 
 pub loop-e-preserved : goal.loop-e-preserved
 loop-e-preserved c =
