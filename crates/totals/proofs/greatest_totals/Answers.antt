@@ -1,0 +1,12 @@
+use Rattle.std.proofs.Common.{arith}
+use Rattle.totals.proofs.Digits.{reached_more}
+use Rattle.totals.proofs.greatest_totals.Goals as goal
+
+pub loop-k-preserved : goal.loop-k-preserved
+loop-k-preserved c =
+    let z = c.args in
+    let l = c.loop-k in
+    let t = c.total_of-total in
+    let r = c.raise_greatest in
+    reached_more z.low z.buyers z.table.now z.list.now l.k l.greatest l.invariant (omega arith) t.result t.ensures.is
+    t.ensures.most _ r.ensures.0 r.ensures.1 r.ensures.2
