@@ -13,16 +13,16 @@ returns-then-fault-ne0 c =
     let ws = c.read_numbers-numbers in
     let g = c.ask_lines-fault in
     let r = c.refused-then-fault-ne0 in
-    refused_lines c.args.sheet.now h.result (h.ensures.passed c.if-head-ne0.false) ws.result ws.ensures g.result g.ensures
-    c.if-fault-ne0.true r.result r.ensures
+    refused_lines c.args.sheet.now h.result (h.ensures.passed c.if-head-ne0.false) ws.result ws.ensures g.result
+    g.ensures c.if-fault-ne0.true r.result r.ensures
 
 pub narrowed-requires : goal.narrowed-requires
 narrowed-requires c =
     let h = c.ask_head-head in
     let ws = c.read_numbers-numbers in
     let g = c.ask_lines-fault in
-    small_worths c.args.sheet.now h.result (h.ensures.passed c.if-head-ne0.false) ws.result ws.ensures g.result g.ensures
-    c.if-fault-ne0.false
+    small_worths c.args.sheet.now h.result (h.ensures.passed c.if-head-ne0.false) ws.result ws.ensures g.result
+    g.ensures c.if-fault-ne0.false
 
 pub returns : goal.returns
 returns c =
