@@ -4,35 +4,34 @@
 use mathlib.Core.Path.{◌≡◌, refl, sym, ap, ap₂, ◌∙◌}
 use mathlib.Core.Bool.{Bool, true, false, not, ◌&&◌, ◌||◌, and_assoc, and_comm, or-true}
 use mathlib.Core.List.{List}
-use Prim.Native.Nat.{ℕ, zero, suc, ◌+◌, ◌-◌, ◌≤◌, ◌<◌}
+use Prim.Native.Nat.{ℕ, zero, suc, ◌+◌, ◌≤◌}
 use native.Mathlib.Omega.{arith}
 use native.Mathlib.Decide.{ℕ_discrete}
 use lib.Dec.{eqb, leb, eqb-suc-zero}
 use lib.ListN.{length, get_or}
 use borrow.Author.Tests.{eqb-true, eq-eqb, ne_eqb, le-leb, lt-leb}
-use Rattle.theory.specs.Lists.{◌∈◌, most, first}
+use Rattle.theory.specs.Lists.{◌∈◌, most}
 use Rattle.theory.specs.Tests.{◌⊃◌, every, some}
 use Rattle.theory.specs.Markets.{total}
 use Rattle.theory.specs.Auction.{closes, supplied}
 use Rattle.theory.proofs.Tests.{every_same, every_both, every_means, some_same, some-map, some_means, same_test, itself}
 use Rattle.theory.proofs.Tests.{by_test, fails, and_means, leb_means}
-use Rattle.theory.proofs.Lists.{most_subset, most_upper, some-when, tabulate-length}
+use Rattle.theory.proofs.Lists.{most_upper, some-when, tabulate-length}
 use Rattle.theory.proofs.Loops.{filled_tabulate}
 use Rattle.numbers.specs.Numbers.{bit}
 use Rattle.owners.specs.Owners.{lacks}
-use Rattle.owners.specs.Prices.{entry}
 use Rattle.owners.specs.Quick.{present_in}
 use Rattle.owners.proofs.Bits.{demand_bit}
 use Rattle.offers.specs.Offers.{Offer, market, Bids, price_at, quote, demand_set, is_keen, revenue, economy, lowest}
 use Rattle.offers.specs.Claims.{economy_at, Regular}
-use Rattle.offers.proofs.Economies.{economy_in, economy_fewer}
+use Rattle.offers.proofs.Economies.{economy_in}
 use Rattle.offers.proofs.Theorems.{settled_economies}
-use Rattle.demand.proofs.Demands.{entry_is, demand_set_is, keen_empty}
-use Rattle.lists.specs.Words.{digit, owners_of, word_of, words_of, Packed, Lent}
+use Rattle.demand.proofs.Demands.{demand_set_is, keen_empty}
+use Rattle.lists.specs.Words.{word_of, words_of, Packed, Lent}
 use Rattle.lists.proofs.Packed.{held, in_word}
-use Rattle.totals.specs.Totals.{word_total, word_in, word_total_in, word_payment}
+use Rattle.totals.specs.Totals.{word_total, word_in, word_total_in}
 use Rattle.totals.proofs.Digits.{bidders-count}
-use Rattle.totals.proofs.Listed.{buyer_bids, bidder_small, total_word, greatest_found, owners_found, bundle_found}
+use Rattle.totals.proofs.Listed.{bidder_small, total_word, greatest_found}
 use Rattle.closing.specs.Supplies.{demand_at, demand_sets, present_served, economy_closes, word_supplied}
 
 -- what brings the most or more brings the most
