@@ -1,31 +1,43 @@
 -- `supply::covered` meets its contract. A set without the absent buyer covers those whose members are in it or absent.
-use Rattle.std.proofs.Common.{◌+◌, ◌-◌, ◌<◌, arith}
+use Rattle.std.proofs.Common.{◌≡◌, true, ℕ, ◌+◌, ◌-◌, ◌^◌, ◌≤◌, ◌<◌, arith}
 use lib.Pow.{pow_mono}
+use Rattle.theory.specs.Coalitions.{inside}
+use Rattle.owners.specs.Quick.{present_in, roster}
 use Rattle.supply.proofs.Words.{covers_all, covers_but, inside-bit, bit_room}
 use Rattle.supply.proofs.covered.Goals as goal
 
+small : (m k : ℕ) → m ≤ 6 → k < 2 ^ m → k < 64
+small m k few h = omega (arith, pow_mono {i = m} {j = 6} few)
+
+room : (m e k r : ℕ) → m ≤ 6 → e ≤ m → k < 2 ^ m → inside (roster m) (present_in e) k ≡ true → (e ≡ 0 → ⊥) →
+    r ≡ 2 ^ (e - 1) → k + r < 64
+room m e k r few le h ins some er =
+    omega (
+      arith,
+      bit_room k (e - 1) (small m k few h) (omega arith) (inside-bit m e k some le ins),
+    )
+
 pub bounds-subsets-k : goal.bounds-subsets-k
-bounds-subsets-k c = omega (arith, pow_mono {i = c.args.buyers} {j = 6} c.requires.1)
+bounds-subsets-k c = small c.args.buyers c.args.k c.requires.1 c.requires.3
 
 pub returns-then-economy-eq0 : goal.returns-then-economy-eq0
 returns-then-economy-eq0 c =
-    covers_all c.args.buyers c.args.economy c.args.k _ c.if-economy-eq0.true c.requires.1 c.requires.3
-    (c.requires.0 c.args.k (omega (arith, pow_mono {i = c.args.buyers} {j = 6} c.requires.1)))
+    let a = c.args in
+    let p = c.requires in
+    covers_all a.buyers a.economy a.k _ c.if-economy-eq0.true p.1 p.3 (p.0 a.k (small a.buyers a.k p.1 p.3))
 
 pub bounds-subsets-more : goal.bounds-subsets-more
 bounds-subsets-more c =
-    let small : c.args.k < 64 = omega (arith, pow_mono {i = c.args.buyers} {j = 6} c.requires.1) in
-    let lacks =
-    inside-bit c.args.buyers c.args.economy c.args.k c.if-economy-eq0.false c.requires.2 c.requires.4 in
-    omega (arith, c.power.ensures.is, bit_room c.args.k (c.args.economy - 1) small (omega arith) lacks)
+    let a = c.args in
+    let p = c.requires in
+    room a.buyers a.economy a.k c.power.result p.1 p.2 p.3 p.4 c.if-economy-eq0.false c.power.ensures.is
 
 pub returns : goal.returns
 returns c =
-    let small : c.args.k < 64 = omega (arith, pow_mono {i = c.args.buyers} {j = 6} c.requires.1) in
-    let lacks =
-    inside-bit c.args.buyers c.args.economy c.args.k c.if-economy-eq0.false c.requires.2 c.requires.4 in
-    let room : c.args.k + c.power.result < 64 =
-    omega (arith, c.power.ensures.is, bit_room c.args.k (c.args.economy - 1) small (omega arith) lacks) in
-    covers_but c.args.buyers c.args.economy c.args.k _ c.requires.1 c.requires.3 c.if-economy-eq0.false
-    c.requires.2 c.requires.4
-    c.power.result c.power.ensures.is (c.requires.0 (c.args.k + c.power.result) room)
+    let a = c.args in
+    let p = c.requires in
+    let r = c.power.result in
+    let absent = c.if-economy-eq0.false in
+    let is = c.power.ensures.is in
+    covers_but a.buyers a.economy a.k _ p.1 p.3 absent p.2 p.4 r is
+    (p.0 (a.k + r) (room a.buyers a.economy a.k r p.1 p.2 p.3 p.4 absent is))
