@@ -1,0 +1,11 @@
+-- `direct::reckon` meets its contract.
+use Rattle.direct.proofs.Reckoning.{reckoned_is}
+use Rattle.direct.proofs.reckon.Goals as goal
+
+pub returns : goal.returns
+returns c O all lent =
+    let z = c.args in
+    let g = c.greatest_totals-greatest in
+    let f = c.first_of_total-word in
+    reckoned_is O z.list.now z.worths.now z.low z.buyers all lent g.result (λ e h. (g.ensures.0 e h).is) f.result
+    f.ensures c.owners_of-owners.result c.payments-due.result c.owners_of-owners.ensures c.payments-due.ensures
