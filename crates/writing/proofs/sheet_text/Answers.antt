@@ -6,6 +6,7 @@ use Rattle.writing.proofs.Texts.{first-list, refused_long, place_none, text_writ
 use Rattle.writing.proofs.sheet_text.Goals as goal
 use Rattle.writing.proofs.sheet_text.Goals.{After-write_sheet-wrote}
 
+-- the worths that are written
 list-is : (c : After-write_sheet-wrote) →
     take c.typed_count-count.result c.typed_worths-worths.result ≡ take 91 (typed_list c.args.numbers.now)
 list-is c =

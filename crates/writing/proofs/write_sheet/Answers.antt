@@ -8,7 +8,8 @@ use Rattle.writing.proofs.write_sheet.Goals as goal
 use Rattle.writing.proofs.write_sheet.Goals.{Else-number-ne0}
 
 -- all questions got a yes
-yes_to : (c : Else-number-ne0) → (j : ℕ) → ListQuestion c.args.buyers c.args.lots c.args.worths.now (length c.args.out.now) j
+yes_to : (c : Else-number-ne0) → (j : ℕ) →
+    ListQuestion c.args.buyers c.args.lots c.args.worths.now (length c.args.out.now) j
 yes_to c =
     (write_all_yes c.args.buyers c.args.lots c.args.worths.now (length c.args.out.now)).0
     (sym c.ask_list-number.ensures ∙ c.if-number-ne0.false)
