@@ -89,7 +89,7 @@ module _ (N m n top : ℕ) (o : List ℕ) where
   pub says_written : between 6 m ≡ true → between 4 n ≡ true → top ≤ 9999 → (vs o' : List ℕ) (r : Wrote) →
       vs ≡ trial_list N m n top → WriteSays m n vs o o' r → TrialSays N m n top o o' r
   unfolding trial_bytes
-  says_written q3 q4 q7 vs o' r e says =
+  says_written q3 q4 q7 _ o' r e says =
       let alike = ap (λ l. write_fault m n l (length o)) e ∙ asked_alike N m n top (length o) q3 q4 q7 in
       let same = ap (sheet_bytes m n) e in
       record {

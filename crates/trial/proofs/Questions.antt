@@ -1,6 +1,6 @@
 -- The questions put to a trial's numbers: which of them gets the first "no" (`trial_first_no`, `trial_all_yes`,
--- `trial_numbers_lem`); the number is at most 11 (`trial_range`), the place 0 (`trial_place_none`); from 559 bytes on the
--- buffer makes no difference (`room_alike`, `never_eleven`), and numbers above 999,999 are refused as that is
+-- `trial_numbers_lem`); the number is at most 11 (`trial_range`), the place 0 (`trial_place_none`); from 559 bytes on
+-- the buffer makes no difference (`room_alike`, `never_eleven`), and numbers above 999,999 are refused as that is
 -- (`trial_capped`).
 use mathlib.Core.Path.{◌≡◌, refl, sym, ap, ◌∙◌}
 use mathlib.Core.Logic.{◌≢◌, ◌↔◌, ◌⊎◌}
