@@ -1,4 +1,4 @@
-// What crosses the C boundary: slices as a pointer and a length, structs by value, no enum.
+// What crosses the C boundary: slices as a pointer and a length, structs by value, no enum. `hokewhuni_c` exports it.
 #![tactic(auto)]
 
 ghost use Rattle.std.specs.Prelude.{◌≡◌};
@@ -25,8 +25,7 @@ pub struct FieldAnswer {
     pub value: usize,
 }
 
-#[unsafe(no_mangle)]
-pub extern "C" fn hokewhuni_read_field(sheet: &[u8], at: usize) -> FieldAnswer
+pub fn hokewhuni_read_field(sheet: &[u8], at: usize) -> FieldAnswer
     ensures { result ≡ field_answer sheet.now at }
 {
     let r = fields::read_field(sheet, at);
@@ -45,79 +44,59 @@ pub extern "C" fn hokewhuni_read_field(sheet: &[u8], at: usize) -> FieldAnswer
     }
 }
 
-#[unsafe(no_mangle)]
-pub extern "C" fn hokewhuni_read_sheet(sheet: &[u8]) -> Read
+pub fn hokewhuni_read_sheet(sheet: &[u8]) -> Read
     ensures { result ≡ sheet_read sheet.now }
 {
     reading::read_sheet(sheet)
 }
 
-#[unsafe(no_mangle)]
-pub extern "C" fn hokewhuni_read_worths(sheet: &[u8]) -> Worths
+pub fn hokewhuni_read_worths(sheet: &[u8]) -> Worths
     ensures { result ≡ worths_read sheet.now }
 {
     reading::read_worths(sheet)
 }
 
 // An array cannot cross by value, so prices are lent.
-#[unsafe(no_mangle)]
-pub extern "C" fn hokewhuni_buyer_demand(sheet: &[u8], buyer: u32, prices: &[u16; 96]) -> Demand
+pub fn hokewhuni_buyer_demand(sheet: &[u8], buyer: u32, prices: &[u16; 96]) -> Demand
     ensures { result ≡ demand_answer sheet.now buyer prices.now }
 {
     selling::buyer_demand(sheet, buyer, *prices)
 }
 
-#[unsafe(no_mangle)]
-pub extern "C" fn hokewhuni_settled_at(sheet: &[u8], prices: &[u16; 96]) -> Settled
+pub fn hokewhuni_settled_at(sheet: &[u8], prices: &[u16; 96]) -> Settled
     ensures { result ≡ settled_answer sheet.now prices.now }
 {
     selling::settled_at(sheet, *prices)
 }
 
-#[unsafe(no_mangle)]
-pub extern "C" fn hokewhuni_run_sale(sheet: &[u8], log: &mut [u8]) -> Sale
+pub fn hokewhuni_run_sale(sheet: &[u8], log: &mut [u8]) -> Sale
     ensures { SaleSays sheet.now log.old log.new result }
 {
     selling::run_sale(sheet, log)
 }
 
-#[unsafe(no_mangle)]
-pub extern "C" fn hokewhuni_direct_way(sheet: &[u8]) -> Direct
+pub fn hokewhuni_direct_way(sheet: &[u8]) -> Direct
     ensures { result ≡ direct_answer sheet.now }
 {
     direct::direct_way(sheet)
 }
 
 // The length of the printed sale in `out`, or 0 where it has no room.
-#[unsafe(no_mangle)]
-pub extern "C" fn hokewhuni_print_sale(sheet: &[u8], log: &mut [u8], out: &mut [u8]) -> usize
+pub fn hokewhuni_print_sale(sheet: &[u8], log: &mut [u8], out: &mut [u8]) -> usize
     ensures { PrintSays sheet.now log.old log.new out.old out.new result }
 {
     printed::print_sale(sheet, log, out)
 }
 
 // Writes nothing where a question gets a no.
-#[unsafe(no_mangle)]
-pub extern "C" fn hokewhuni_write_sheet(
-    buyers: u32,
-    lots: u32,
-    worths: &[u32],
-    out: &mut [u8],
-) -> Wrote
+pub fn hokewhuni_write_sheet(buyers: u32, lots: u32, worths: &[u32], out: &mut [u8]) -> Wrote
     ensures { WriteSays buyers lots worths.now out.old out.new result }
 {
     writing::write_sheet(buyers, lots, worths, out)
 }
 
 // Starts the generator anew in each call.
-#[unsafe(no_mangle)]
-pub extern "C" fn hokewhuni_trial_sheet(
-    number: u16,
-    buyers: u32,
-    lots: u32,
-    top: u32,
-    out: &mut [u8],
-) -> Wrote
+pub fn hokewhuni_trial_sheet(number: u16, buyers: u32, lots: u32, top: u32, out: &mut [u8]) -> Wrote
     ensures { TrialSays number buyers lots top out.old out.new result }
 {
     trial::trial_sheet(number, buyers, lots, top, out)
