@@ -3,7 +3,7 @@ use Rattle.std.proofs.Common.{arith, sym, ap, ◌∙◌, ◌≡◌, ℕ, ◌+◌
 use Rattle.fields.specs.Fields.{breaks_rule}
 use Rattle.fields.proofs.Scan.{class_low, class_high, few_digits}
 use Rattle.fields.proofs.Scan.{rule_blank, rule_zero, rule_digit, rule_foreign}
-use Rattle.fields.proofs.Columns.{blank_more, digit_more, running_broken, running_whole}
+use Rattle.fields.proofs.Columns.{so_far_none, blank_more, digit_more, running_broken, running_whole}
 use Rattle.fields.proofs.read_columns.Goals as goal
 use Rattle.fields.proofs.read_columns.Goals.{Joined-b, then-b-ne32, else-b-ne32}
 use Rattle.fields.proofs.read_columns.Goals.{in-32, in-48+then-not-begun, in-48+else-not-begun, in-49-to-57}
@@ -65,3 +65,6 @@ returns c =
     let x = rw h at c.loop-k.invariant.1 in
     let small = few_digits n 6 c.loop-k.value (omega arith) x.small in
     (running_whole six n c.loop-k.begun c.loop-k.value x, omega (arith, small))
+
+pub loop-k-init : goal.loop-k-init
+loop-k-init c = (omega arith, so_far_none (take 6 (drop c.args.at c.args.sheet.now)))
