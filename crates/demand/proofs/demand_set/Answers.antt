@@ -1,8 +1,11 @@
-use Rattle.std.proofs.Common.{◌<◌}
+use Rattle.std.proofs.Common.{◌<◌, arith}
 use Rattle.demand.specs.Demands.{quoted}
-use Rattle.demand.proofs.Loops.{gathered_in, gathered_out}
+use Rattle.demand.proofs.Loops.{gathered_none, gathered_in, gathered_out, gathered_all}
 use Rattle.demand.proofs.demand_set.Goals as goal
 use Rattle.demand.proofs.demand_set.Goals.{then-wants, else-wants}
+
+pub loop-s-init : goal.loop-s-init
+loop-s-init c = gathered_none ((quoted c.args.bundles c.args.worths.now c.args.prices.now).wants c.args.i) c.args.bundles
 
 pub loop-s-preserved : goal.loop-s-preserved
 loop-s-preserved c =
@@ -16,3 +19,8 @@ loop-s-preserved c =
           gathered_out wants c.args.bundles c.loop-s.s c.loop-s.set _ c.loop-s.invariant h c.wants.result
           c.wants.ensures c.if-wants.set w.if-wants.false w.set-is
     ]
+
+pub returns : goal.returns
+returns c =
+    gathered_all ((quoted c.args.bundles c.args.worths.now c.args.prices.now).wants c.args.i) c.args.bundles
+    c.loop-s.s c.loop-s.set _ c.loop-s.invariant (omega arith)
