@@ -1,9 +1,10 @@
-use Rattle.std.proofs.Common.{◌≡◌, List, ℕ, ◌+◌, ◌-◌, ◌^◌, ◌≤◌, length, take, ap, sym, ◌∙◌, arith}
+use Rattle.std.proofs.Common.{◌≡◌, refl, List, [], ◌∷◌, ℕ, ◌+◌, ◌-◌, ◌^◌, ◌≤◌, length, take, ap, sym, ◌∙◌, arith}
+use native.Mathlib.Nat.{pow-zero}
 use lib.ListN.{length-take, length-drop}
 use Rattle.theory.specs.Lists.{over}
-use Rattle.theory.proofs.Over.{over_long, over_then}
+use Rattle.theory.proofs.Over.{over_long, over_more, over_then}
 use Rattle.lists.specs.Words.{share_in}
-use Rattle.lists.proofs.Walks.{written, whole, whole_length, written_length, written_all}
+use Rattle.lists.proofs.Walks.{written, whole, whole_length, whole_end, written_length, written_all}
 use Rattle.lists.proofs.Walks.{written_next, begun_next, written_room, next_room, next_count, whole-count}
 use Rattle.lists.proofs.+walk.Goals as goal
 use Rattle.lists.proofs.+walk.Goals.{After-with_owner-next}
@@ -45,6 +46,18 @@ module _ {t : ℕ} (c : After-with_owner-next t) where
         next_room many c.loop-i.i c.args.left (length c.args.out.now) c.if-left-eq0.false (omega arith)
             (omega arith),
       )
+
+pub returns-then-left-eq0 : goal.returns-then-left-eq0
+returns-then-left-eq0 t c =
+    let z = c.args in
+    let e : length z.order.now ^ z.left ≡ 1 = ap (λ n. length z.order.now ^ n) c.if-left-eq0.true
+    ∙ pow-zero (length z.order.now) in (
+      sym e,
+      over_more [] z.out.now c.word_of.result 0 refl (omega arith)
+          ∙ ap (λ l. over l z.out.now)
+          (ap (λ w. w ∷ []) c.word_of.ensures
+          ∙ whole_end z.owners z.lots z.left (share_in z.shares.now) z.order.now c.if-left-eq0.true),
+    )
 
 pub offset_bounds-out-at : goal.offset_bounds-out-at
 offset_bounds-out-at t c =
