@@ -2,7 +2,7 @@
  *
  *     cc -std=c11 -Iinclude examples/office.c target/staticlib/libhokewhuni.a -o office
  *
- * after `rt staticlib hokewhuni`; in an installed folder the library is lib/libhokewhuni.a.
+ * after `tools/staticlib`; in an installed folder the library is lib/libhokewhuni.a.
  *
  * A sheet is any bytes. Its numbers of buyers and lots are called m and n below; a bundle's number
  * is the sum of 2^(j - 1) over its lots j, and 0 is the empty bundle. A table has 96 entries: that

@@ -1,6 +1,6 @@
 //! Finds the proved library and links it. It is looked for in the folder that HOKEWHUNI_LIB names,
 //! an absolute path; without that in `lib` beside this package's folder, as an installed copy has
-//! it, and then where `rt staticlib hokewhuni` writes it in the repository.
+//! it, and then where `tools/staticlib` writes it in the repository.
 
 use std::env;
 use std::path::{Path, PathBuf};
@@ -11,7 +11,7 @@ const LIBRARY: &str = "libhokewhuni.a";
 /// From this package's folder.
 const FOLDERS: [&str; 2] = ["../lib", "../target/staticlib"];
 
-const WHAT_TO_DO: &str = "run `rt staticlib hokewhuni` in the repository, or name the folder of \
+const WHAT_TO_DO: &str = "run `tools/staticlib` in the repository, or name the folder of \
                           libhokewhuni.a in HOKEWHUNI_LIB";
 
 fn main() -> ExitCode {

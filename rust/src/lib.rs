@@ -61,7 +61,7 @@
 //!
 //! The library is for x86-64 Linux. The build takes it from the folder that `HOKEWHUNI_LIB` names,
 //! an absolute path; or else from `lib` beside this package's folder, or from `target/staticlib`
-//! there, where `rt staticlib hokewhuni` writes it in the repository.
+//! there, where `tools/staticlib` writes it in the repository.
 
 #![deny(unsafe_code)]
 #![warn(missing_docs)]

@@ -1,4 +1,4 @@
-//! The lines of antt: what `use` lines take, and what is defined.
+//! The lines of antt: what `use` lines take, those of Rattle code too, and what is defined.
 
 use super::sources::code;
 
@@ -45,7 +45,8 @@ pub fn passed_on(text: &str) -> impl Iterator<Item = Taken<'_>> {
 pub fn taken(line: &str) -> Vec<Taken<'_>> {
     let line = code(line).trim_end().trim_end_matches(';');
     let (_, path) = line.split_once("use ").unwrap_or_default();
-    let Some((module, list)) = path.split_once(".{") else {
+    let listed = path.split_once(".{").or_else(|| path.split_once("::{"));
+    let Some((module, list)) = listed else {
         let (module, known) = renamed(path);
         return vec![Taken {
             module: module.to_string(),
@@ -123,9 +124,16 @@ pub fn head(line: &str) -> (usize, &str) {
 
 /// Whether a line declares a name of antt that is no operator's, as in `pub name : type`.
 pub fn declares(line: &str) -> bool {
-    let plain = |c: char| c.is_alphanumeric() || "-′·".contains(c);
+    let plain = |c: char| c.is_alphanumeric() || "-_'".contains(c);
     let mut words = unmarked(line);
     words.next().is_some_and(|name| name.chars().all(plain)) && words.next() == Some(":")
+}
+
+/// Whether a line declares an answer or an invariant that the prover asks for, as in
+/// `pub returns : goal.returns`, or the whole proof of a function, `pub name-spec : .. statement M`.
+pub fn answers(line: &str) -> bool {
+    let kind = code(line).split_once(" : ").map_or("", |(_, kind)| kind);
+    kind.starts_with("goal.") || kind.ends_with("statement M")
 }
 
 /// The words of a line's code but for those that mark a declaration.

@@ -1,5 +1,6 @@
 //! The entries: the functions of the documents' table, and those that C can call. They require
-//! nothing, and ensure something by a definition of ours.
+//! nothing, and ensure something by a definition of ours. What C can call has the contract of a
+//! function of the same name in Rattle.
 
 use std::collections::BTreeSet;
 use std::path::Path;
@@ -23,6 +24,8 @@ pub struct Entries<'a> {
     found: Vec<&'a Function<'a>>,
     /// Those that C can call.
     foreign: Vec<&'a Function<'a>>,
+    /// The public functions of the same names in Rattle.
+    namesakes: Vec<&'a Function<'a>>,
 }
 
 /// The texts of the documents that are there.
@@ -37,10 +40,13 @@ impl<'a> Entries<'a> {
         let listed: BTreeSet<&str> = documents.iter().flat_map(|text| listed(text)).collect();
         let is_listed = |function: &&Function| listed.contains(function.name);
         let public = functions.iter().filter(|function| function.is("pub"));
-        let foreign = functions.iter().filter(|function| function.is("extern"));
+        let (foreign, others): (Vec<&Function>, Vec<&Function>) =
+            public.partition(|function| function.is("extern"));
+        let is_namesake = |other: &&&Function| foreign.iter().any(|it| it.name == other.name);
         Entries {
-            found: public.filter(is_listed).collect(),
-            foreign: foreign.collect(),
+            namesakes: others.iter().filter(is_namesake).copied().collect(),
+            found: others.into_iter().filter(is_listed).collect(),
+            foreign,
             listed,
         }
     }
@@ -52,6 +58,10 @@ impl<'a> Entries<'a> {
             "the entries: {listed} functions, {foreign} that C can call; {asking} with a `requires`"
         ));
         found.wrong.extend(self.missing());
+        for entry in self.differing() {
+            let namesake = "has not the contract of a function of its name in Rattle";
+            found.wrong.push(format!("{entry} {namesake}"));
+        }
         for entry in self.all() {
             if entry.asks() {
                 found.wrong.push(format!("{entry} has a `requires`"));
@@ -61,6 +71,16 @@ impl<'a> Entries<'a> {
                 found.wrong.push(format!("{entry} {nothing}"));
             }
         }
+    }
+
+    /// What C can call and has another contract than its namesakes, or has none.
+    fn differing(&self) -> impl Iterator<Item = &Function<'a>> {
+        let foreign = self.foreign.iter().copied();
+        foreign.filter(|entry| {
+            let others = self.namesakes.iter();
+            let mut others = others.filter(|other| other.name == entry.name).peekable();
+            others.peek().is_none() || others.any(|other| !entry.promises_as(other))
+        })
     }
 
     /// What the documents or the crates lack.

@@ -58,10 +58,17 @@ impl Function<'_> {
         !self.clauses("requires").is_empty()
     }
 
-    /// What its clauses of a kind have in their braces.
+    /// Whether the contract of another one is the same.
+    pub fn promises_as(&self, other: &Function) -> bool {
+        let same = |kind| self.clauses(kind) == other.clauses(kind);
+        same("requires") && same("ensures")
+    }
+
+    /// What its clauses of a kind have in their braces. A clause may have a name, and a star for one
+    /// of memory.
     fn clauses(&self, kind: &str) -> Vec<&str> {
         let texts = self.code.split(kind).skip(1);
-        texts.filter_map(in_braces).collect()
+        texts.filter_map(in_braces).map(str::trim).collect()
     }
 
     /// The definitions of ours that its `ensures` clauses name.
@@ -79,9 +86,12 @@ impl Display for Function<'_> {
     }
 }
 
-/// What stands in the braces that a text begins with.
+/// What stands in the first braces of a text, after a word at most.
 fn in_braces(text: &str) -> Option<&str> {
-    let inside = text.trim_start().strip_prefix('{')?;
+    let (name, inside) = text.split_once('{')?;
+    if name.split_whitespace().count() > 1 {
+        return None;
+    }
     let mut depth = 1;
     for (at, c) in inside.char_indices() {
         match c {

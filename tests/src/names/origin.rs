@@ -5,11 +5,19 @@ use std::collections::{BTreeSet, HashSet};
 use super::antt::{all_taken, passed_on, Taken};
 use super::sources::{code, find, is_used, parts, Source};
 
-/// The libraries of the kit, and its prelude.
-const KIT: [&str; 5] = ["mathlib", "Prim", "native", "lib", "borrow"];
+/// What the modules of the kit's libraries begin with.
+const KIT: [&str; 7] = [
+    "mathlib.",
+    "Prim.",
+    "native.",
+    "lib.",
+    "borrow.",
+    "Rattle.core.",
+    "Rattle.std.",
+];
 
 /// What the modules of the crates begin with.
-pub const OURS: &str = "Rattle·";
+pub const OURS: &str = "Rattle.";
 
 /// A name of a crate, by the file of its module.
 #[derive(Clone, PartialEq, Eq, PartialOrd, Ord)]
@@ -27,7 +35,7 @@ pub enum Origin {
 
 /// Where a name comes from, through the files that pass it on.
 pub fn origin(sources: &[Source], taken: &Taken) -> Origin {
-    if KIT.contains(&taken.module.split('.').next().unwrap_or_default()) {
+    if KIT.iter().any(|library| taken.module.starts_with(library)) {
         return Origin::Kit;
     }
     let (Some(file), Some(name)) = (file_of(&taken.module), taken.name) else {
@@ -43,11 +51,9 @@ pub fn origin(sources: &[Source], taken: &Taken) -> Origin {
     }
 }
 
-/// The file of a crate's module: crates/sale/specs/Answers.antt is `Rattle·sale.specs.Answers`, and
-/// `Rattle·sale·specs.specs.Answers` where the crate itself names it.
+/// The file of a crate's module: crates/sale/specs/Answers.antt is `Rattle.sale.specs.Answers`.
 fn file_of(module: &str) -> Option<String> {
-    let (library, path) = module.strip_prefix(OURS)?.split_once('.')?;
-    let name = library.split('·').next()?;
+    let (name, path) = module.strip_prefix(OURS)?.split_once('.')?;
     Some(format!("crates/{name}/{}.antt", path.replace('.', "/")))
 }
 
@@ -64,8 +70,8 @@ pub fn named(sources: &[Source], text: &str, words: &HashSet<&str>) -> BTreeSet<
 
 impl Name {
     /// The struct or enum of Rattle code whose declaration gives the name, as `Sale` in
-    /// `Rattle·sale.specs.declared.Sale` and the variants of `Field` in
-    /// `Rattle·fields.specs.declared.Field.the-variants`.
+    /// `Rattle.sale.specs.declared.Sale` and the variants of `Field` in
+    /// `Rattle.fields.specs.declared.Field.TheVariants`.
     pub fn declared(&self, sources: &[Source]) -> Option<&str> {
         let (folder, path) = self.file.split_once("/specs/declared/")?;
         let name = path.split(['/', '.']).next()?;

@@ -15,8 +15,10 @@ pub struct Source {
 const PROVED: [&str; 2] = ["antt", "rt"];
 
 /// What texts end with, and those that end with nothing.
-const TEXTS: [&str; 9] = ["antt", "c", "edit", "h", "md", "rs", "rt", "toml", "txt"];
-const SCRIPTS: [&str; 2] = [".ci/run", "hokewhuni"];
+const TEXTS: [&str; 10] = [
+    "antt", "c", "edit", "h", "md", "py", "rs", "rt", "toml", "txt",
+];
+const SCRIPTS: [&str; 3] = [".ci/run", "hokewhuni", "tools/staticlib"];
 
 /// All files of Rattle and antt, in the order of their paths.
 pub fn collect(root: &Path) -> io::Result<Vec<Source>> {
@@ -59,10 +61,11 @@ fn collect_below(
     Ok(())
 }
 
-/// Whether a folder is hidden, or has what is built.
+/// Whether a folder is hidden, or has what is built: `target`, and `out` of a crate.
 fn is_apart(folder: &Path) -> bool {
     let name = folder.file_name().unwrap_or_default().to_string_lossy();
-    name.starts_with('.') || name == "target"
+    let of_crate = folder.starts_with("crates") && folder.components().count() == 3;
+    name.starts_with('.') || name == "target" || of_crate && name == "out"
 }
 
 fn source(root: &Path, path: &Path) -> io::Result<Source> {
@@ -85,7 +88,7 @@ pub fn code(line: &str) -> &str {
 
 /// What stands between blanks and punctuation.
 pub fn parts(code: &str) -> impl Iterator<Item = &str> {
-    code.split(|c: char| c.is_whitespace() || "(){},;.⌜⌝&*!:".contains(c))
+    code.split(|c: char| c.is_whitespace() || "(){},;.&*!:".contains(c))
 }
 
 /// The words of a line before its comment.
@@ -96,10 +99,10 @@ pub fn words(line: &str) -> impl Iterator<Item = &str> {
         .chain(code.contains("[]").then_some("[]"))
 }
 
-/// Whether a name is among the words. An operator's name has `_` where its arguments stand; it is
+/// Whether a name is among the words. An operator's name has `◌` where its arguments stand; it is
 /// written whole, or as the words between them.
 pub fn is_used(name: &str, words: &HashSet<&str>) -> bool {
-    let operator = name.starts_with('_') || name.ends_with('_');
-    let mut parts = name.split('_').filter(|part| !part.is_empty());
+    let operator = name.contains('◌');
+    let mut parts = name.split('◌').filter(|part| !part.is_empty());
     words.contains(name) || operator && parts.all(|part| words.contains(part))
 }

@@ -3,7 +3,7 @@
 
 use std::collections::{HashMap, HashSet};
 
-use super::antt::{declares, head, is_use, taken};
+use super::antt::{answers, declares, head, is_use, taken};
 use super::sources::{code, is_used, parts, words, Source};
 
 /// What is not used, a line for each.
@@ -23,6 +23,7 @@ fn unused_crates(crates: &str, sources: &[Source]) -> Vec<String> {
     let uses = lines.filter_map(|line| line.split_once(':'));
     let mut unused = Vec::new();
     for (name, others) in uses {
+        let name = name.split_whitespace().next().unwrap_or_default();
         let folder = format!("crates/{name}/");
         let own = || {
             sources
@@ -30,7 +31,7 @@ fn unused_crates(crates: &str, sources: &[Source]) -> Vec<String> {
                 .filter(|source| source.path.starts_with(&folder))
         };
         for other in others.split_whitespace() {
-            let in_proofs = format!("Rattle·{other}.");
+            let in_proofs = format!("Rattle.{other}.");
             let in_code = format!("{other}::");
             if !own().any(|s| s.text.contains(&in_proofs) || s.text.contains(&in_code)) {
                 unused.push(format!("crates.txt: {name} does not use {other}"));
@@ -41,7 +42,7 @@ fn unused_crates(crates: &str, sources: &[Source]) -> Vec<String> {
 }
 
 /// The names that a file of laws or definitions declares and that stand nowhere but at the head of
-/// their own lines. Function proofs answer what the prover asks, and worked examples are used by
+/// their own lines. Answers to what the prover asks of a function, and worked examples, are used by
 /// nobody.
 fn unused_laws(sources: &[Source]) -> Vec<String> {
     let mut counts: HashMap<&str, usize> = HashMap::new();
@@ -54,22 +55,22 @@ fn unused_laws(sources: &[Source]) -> Vec<String> {
     }
     let mut unused = Vec::new();
     for source in sources {
-        if source.path.ends_with("/Proof.antt") || source.path.ends_with("/Example.antt") {
+        if source.path.ends_with("/Example.antt") {
             continue;
         }
         let mut heads: HashMap<(usize, &str), usize> = HashMap::new();
         for line in source.text.lines() {
             *heads.entry(head(line)).or_default() += 1;
         }
-        let declared = source.text.lines().filter(|line| declares(line)).map(head);
+        let declared = source.text.lines().filter(|line| declares(line));
+        let laws = declared.filter(|line| !answers(line)).map(head);
         unused.extend(
-            declared
-                .filter(|head| {
-                    counts
-                        .get(head.1)
-                        .is_some_and(|count| *count == heads[head])
-                })
-                .map(|(_, name)| format!("{}: {name} is used nowhere", source.path)),
+            laws.filter(|head| {
+                counts
+                    .get(head.1)
+                    .is_some_and(|count| *count == heads[head])
+            })
+            .map(|(_, name)| format!("{}: {name} is used nowhere", source.path)),
         );
     }
     unused

@@ -15,24 +15,30 @@ use crate::tally::Tally;
 /// The system's tools, and nothing of the kit.
 pub const SYSTEM: &str = "/usr/bin:/bin";
 
-/// Stands in for `rt`: notes each call, proves two crates, and makes the program of the second, which
-/// prints a line of what its source has, unless it has made that before. It waits for a file `go`,
-/// and fails for a source that is broken.
+/// Stands in for `rt`: notes each call, proves the crate of the folder that it is called in and the one
+/// below unless it has kept that, and makes the program, which prints a line of what its source has,
+/// unless it has made that before. It waits for a file `go`, and fails for a source that is broken.
 const RT: &str = r#"#!/bin/sh
-echo "$@" >>"$NOTES/calls"
-mkdir -p target/log target/bin target/stamp
-for crate in first "$2"; do
-    echo "rt: $crate is begun" | tee target/log/$crate.out
+name=${PWD##*/}
+echo "$@ in $name" >>"$NOTES/calls"
+[ "$*" = run ] || exit 1
+below=../first/out/rlib/first.rlib
+if ! cmp -s ../first/src/lib.rt $below/lib.rt; then
+    echo "rt: chose --jobs 2 for first"
     sleep 0.5
-done
+    mkdir -p $below && cp ../first/src/lib.rt $below
+fi
+echo "rt: chose --jobs 2 for $name"
+sleep 0.5
 : >"$NOTES/begun"
 while [ ! -e "$NOTES/go" ]; do sleep 0.1; done
-text=$(cat "crates/$2/src/main.rt")
-[ "$text" != broken ] || { echo "lib.rt:1:1: error: broken"; seq 30; exit 1; }
-[ "$text" != "$(cat "target/stamp/$2")" ] || exit 0
-printf '#!/bin/sh\ncat >/dev/null\necho "settled by %s"\n' "$text" >"target/bin/$2"
-chmod +x "target/bin/$2"
-echo "$text" >"target/stamp/$2"
+text=$(cat src/main.rt)
+[ "$text" != broken ] || { echo "src/main.rt:1:1: error: broken"; seq 30; exit 1; }
+mkdir -p out/incremental
+[ "$text" != "$(cat out/incremental/text)" ] || exit 0
+printf '#!/bin/sh\ncat >/dev/null\necho "settled by %s"\n' "$text" >"out/$name"
+chmod +x "out/$name"
+echo "$text" >out/incremental/text
 "#;
 
 /// How long a test waits for a build to begin or to end.
@@ -66,9 +72,10 @@ pub fn compare(tally: &mut Tally) {
 /// A test by its name. Each goes on with what the one before it left.
 type Test = (&'static str, fn(&Tree) -> Result<(), String>);
 
-const TESTS: [Test; 12] = [
+const TESTS: [Test; 15] = [
     ("no kit", no_kit),
     ("the first build", first),
+    ("the folders of a build", folders),
     ("nothing changed", unchanged),
     ("a new date", new_date),
     ("a change with an old date", old_date),
@@ -77,8 +84,10 @@ const TESTS: [Test; 12] = [
     ("two builds at once", two_at_once),
     ("a build that is interrupted", interrupted),
     ("a program that is gone", gone),
+    ("all that was built is gone", all_gone),
     ("a build that fails", failing),
     ("three programs", three_programs),
+    ("what the kit keeps in the tree", kept_in_tree),
 ];
 
 impl Tree {
@@ -89,6 +98,7 @@ impl Tree {
         for folder in [
             "bin",
             "crates/first/src",
+            "crates/first/must-fail",
             "crates/sale_main/src",
             "crates/write_main/src",
             "crates/trial_main/src",
@@ -102,6 +112,7 @@ impl Tree {
              trial_main: first io\n",
         )?;
         tree.write("crates/first/src/lib.rt", "one")?;
+        tree.write("crates/first/must-fail/wrong.edit", "one")?;
         tree.write("crates/write_main/src/main.rt", "lists")?;
         tree.write("crates/trial_main/src/main.rt", "trials")?;
         tree.write("rt", RT)?;
@@ -231,10 +242,12 @@ fn no_kit(tree: &Tree) -> Result<(), String> {
 /// said twice, and `other` is none of the crates.
 fn first(tree: &Tree) -> Result<(), String> {
     let ended = tree.expect("one", 1)?;
-    builds(tree, &ended, "sale_main")
+    let first = "hokewhuni: proving crate 1 of 2, first\n";
+    builds(tree, &ended, "sale_main", first)
 }
 
-fn builds(tree: &Tree, ended: &Ended, name: &str) -> Result<(), String> {
+/// What a build says: of the crate below, this, and nothing if it is kept.
+fn builds(tree: &Tree, ended: &Ended, name: &str, first: &str) -> Result<(), String> {
     let errors = String::from_utf8_lossy(&ended.errors);
     let log = tree.path("target/built/log");
     let lines = [
@@ -243,14 +256,38 @@ fn builds(tree: &Tree, ended: &Ended, name: &str) -> Result<(), String> {
              minutes; the log is {}\n",
             log.display()
         ),
-        String::from("hokewhuni: proving crate 1 of 2, first\n"),
+        first.to_string(),
         format!("hokewhuni: proving crate 2 of 2, {name}\n"),
     ];
     require(errors == lines.concat(), || errors.to_string())?;
     let log = told(fs::read_to_string(log))?;
-    require(log.contains(&format!("rt: {name} is begun")), || {
-        log.clone()
-    })
+    require(
+        log.contains(&format!("rt: chose --jobs 2 for {name}")),
+        || log.clone(),
+    )
+}
+
+/// The crates are as they were, and below `target` nothing is left that `rt ci` refuses there: sources,
+/// lists of crates and links.
+fn folders(tree: &Tree) -> Result<(), String> {
+    for name in ["first", "sale_main"] {
+        let made = tree.path("crates").join(name).join("out");
+        require(!made.exists(), || made.display().to_string())?;
+    }
+    let mut folders = vec![tree.path("target")];
+    while let Some(folder) = folders.pop() {
+        for entry in told(fs::read_dir(folder))? {
+            let path = told(entry)?.path();
+            let ending = path.extension().unwrap_or_default();
+            let source = ["rt", "antt"].iter().any(|source| ending == *source);
+            let refused = source || path.ends_with("crates.txt") || path.is_symlink();
+            require(!refused, || path.display().to_string())?;
+            if path.is_dir() {
+                folders.push(path);
+            }
+        }
+    }
+    Ok(())
 }
 
 /// The program is there: nothing is said, and the kit is not asked for.
@@ -324,11 +361,15 @@ fn interrupted(tree: &Tree) -> Result<(), String> {
     quiet(&tree.expect("nine", 0)?)
 }
 
-/// What was built is made again if it is gone, also where `rt` takes it for made.
+/// What was built is there again if it is gone, also where `rt` takes it for made.
 fn gone(tree: &Tree) -> Result<(), String> {
-    for folder in ["target/built", "target/bin"] {
-        told(fs::remove_dir_all(tree.path(folder)))?;
-    }
+    told(fs::remove_dir_all(tree.path("target/built/programs")))?;
+    let ended = tree.expect("nine", 1)?;
+    builds(tree, &ended, "sale_main", "")
+}
+
+fn all_gone(tree: &Tree) -> Result<(), String> {
+    told(fs::remove_dir_all(tree.path("target/built")))?;
     tree.expect("nine", 1).map(|_| ())
 }
 
@@ -338,7 +379,7 @@ fn failing(tree: &Tree) -> Result<(), String> {
     for _ in 0..2 {
         let log = tree.path("target/built/log");
         let said = format!(
-            "lib.rt:1:1: error: broken\n1\n2\n3\n4\n5\n\
+            "src/main.rt:1:1: error: broken\n1\n2\n3\n4\n5\n\
              hokewhuni: sale_main could not be built; the log is {}\n",
             log.display()
         );
@@ -361,7 +402,7 @@ fn three_programs(tree: &Tree) -> Result<(), String> {
             format!("{misused:?}")
         })?;
         let ended = tree.expect_of(words, text, 1)?;
-        builds(tree, &ended, name)?;
+        builds(tree, &ended, name, "")?;
         quiet(&tree.expect_of(words, text, 0)?)?;
     }
     quiet(&tree.expect("ten", 0)?)?;
@@ -375,6 +416,17 @@ fn three_programs(tree: &Tree) -> Result<(), String> {
         quiet(&tree.expect_of(words, text, 0)?)?;
     }
     Ok(())
+}
+
+/// What `rt` made in the tree, and edits that have to fail, are no sources: they make no difference.
+fn kept_in_tree(tree: &Tree) -> Result<(), String> {
+    let kept = "crates/sale_main/out/incremental";
+    told(fs::create_dir_all(tree.path(kept)))?;
+    tree.write(&format!("{kept}/text"), "twelve")?;
+    tree.write("crates/first/must-fail/wrong.edit", "two")?;
+    quiet(&tree.expect("eleven", 0)?)?;
+    tree.edit("twelve")?;
+    tree.expect("twelve", 1).map(|_| ())
 }
 
 /// Status 0, and a line of the program's text.

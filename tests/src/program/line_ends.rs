@@ -44,7 +44,7 @@ pub fn compare(tally: &mut Tally) {
 
 /// Copies the files that are compared, and what git is told of them, into a folder.
 fn copy(folder: &Path) -> Result<Vec<String>, String> {
-    let mut files = ["hokewhuni", ".ci/run", ".gitattributes"]
+    let mut files = ["hokewhuni", ".ci/run", "tools/staticlib", ".gitattributes"]
         .map(String::from)
         .to_vec();
     for entry in told(fs::read_dir(in_repository("examples")))? {

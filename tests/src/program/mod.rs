@@ -75,11 +75,11 @@ pub const SALE: &str = "sale_main";
 const WRITE: &str = "write_main";
 const TRIAL: &str = "trial_main";
 
-/// Where a program is. HOKEWHUNI_PROGRAMS names another folder.
+/// Where a program is: where `rt` makes it of its crate. HOKEWHUNI_PROGRAMS names another folder.
 pub fn program_path(name: &str) -> PathBuf {
     match env::var_os("HOKEWHUNI_PROGRAMS") {
         Some(folder) => Path::new(&folder).join(name),
-        None => in_repository("target/bin").join(name),
+        None => in_repository("crates").join(name).join("out").join(name),
     }
 }
 

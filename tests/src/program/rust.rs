@@ -171,7 +171,7 @@ fn without_library() -> Result<(), String> {
     command.env("HOKEWHUNI_LIB", in_repository("examples"));
     let ended = told(run_within(&mut command, LIMIT))?;
     let errors = String::from_utf8_lossy(&ended.errors);
-    let said = "which has no libhokewhuni.a: run `rt staticlib hokewhuni` in the repository";
+    let said = "which has no libhokewhuni.a: run `tools/staticlib` in the repository";
     match ended.status {
         Some(status) if !status.success() && errors.contains(said) => Ok(()),
         _ => Err(errors.into_owned()),
