@@ -384,6 +384,7 @@ fn failing(tree: &Tree) -> Result<(), String> {
             log.display()
         );
         failed(&tree.sell()?, &said)?;
+        folders(tree)?;
     }
     tree.edit("ten")?;
     tree.expect("ten", 1).map(|_| ())
