@@ -86,7 +86,8 @@ module _ (O : Offer) (regular : Regular O) (ps : List ℕ) (e : ℕ) (in_range :
       ∙ every_same (market O).many O.low _ _ (demanded a m))
 
   -- by a word: `sets` are the demand sets, and T is the revenue
-  module _ (packed : Packed O) (sets : List ℕ) (answers : (i : ℕ) → Bids O i → get_or sets i 0 ≡ demand_set O ps i) (T : ℕ)
+  module _ (packed : Packed O) (sets : List ℕ) (answers : (i : ℕ) → Bids O i →
+      get_or sets i 0 ≡ demand_set O ps i) (T : ℕ)
       (is : T ≡ revenue O ps e) where
     abbrev passes : ℕ → Bool
     passes = economy_closes O.low O.buyers sets ps e T

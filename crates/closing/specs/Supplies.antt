@@ -1,5 +1,5 @@
--- By words, for an economy: whether every bidder present demands what it owns, whether a word closes it (for that of all
--- bidders, the sale), and whether some word does.
+-- By words, for an economy: whether every bidder present demands what it owns, whether a word closes it (for that of
+-- all bidders, the sale), and whether some word does.
 use Rattle.std.specs.Prelude.{◌≡◌, Bool, ◌&&◌, List, ℕ, ltb, leb, length, get_or}
 use Rattle.theory.specs.Sums.{when}
 use Rattle.theory.specs.Lists.{most, first, tabulate}

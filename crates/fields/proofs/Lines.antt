@@ -26,7 +26,8 @@ columns-length (suc k) v =
 
 pub fields_length : (vs : List ℕ) → length (fields_of vs) ≡ 6 * length vs
 fields_length [] = refl
-fields_length (v ∷ vs) = length-append (columns 6 v) (fields_of vs) ∙ omega (arith, columns-length 6 v, fields_length vs)
+fields_length (v ∷ vs) = length-append (columns 6 v) (fields_of vs)
+    ∙ omega (arith, columns-length 6 v, fields_length vs)
 
 pub fields_append : (vs us : List ℕ) → fields_of (vs ++ us) ≡ fields_of vs ++ fields_of us
 fields_append [] us = refl

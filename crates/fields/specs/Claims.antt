@@ -1,7 +1,8 @@
 -- What is claimed of fields (`Fields`): the sum of a field's digits goes from column to column as the running value
 -- does, and is the field's number. Examples by `values_after` and `broken_after`, which have the answers for 1 to 6
 -- columns.
-use Rattle.std.specs.Prelude.{◌≡◌, ◌↔◌, Bool, true, false, List, [], ◌∷◌, ◌++◌, ℕ, ◌+◌, ◌*◌, ◌≤◌, ◌<◌, length, take, drop}
+use Rattle.std.specs.Prelude.{◌≡◌, ◌↔◌, Bool, true, false, List, [], ◌∷◌, ◌++◌, ℕ, ◌+◌, ◌*◌, ◌≤◌, ◌<◌, length, take}
+use Rattle.std.specs.Prelude.{drop}
 use Rattle.theory.specs.Tests.{some}
 use Rattle.theory.specs.Lists.{tabulate}
 use Rattle.fields.specs.declared.Field.TheVariants.{Number}

@@ -1,7 +1,8 @@
 -- Fields of a lot sheet (rules 2.2 to 2.5): a number at the right of six columns. Offers the classes of bytes, the
--- field at a column (`field_at`), what reading one field answers (`field_read`), what is known after some of its columns
--- (`running_at`), and the columns in which a number is written (`columns`).
-use Rattle.std.specs.Prelude.{Bool, true, false, not, ◌&&◌, List, [], ◌∷◌, ◌++◌, ℕ, zero, suc, ◌+◌, ◌-◌, ◌*◌, ◌/◌, ◌%◌, ◌^◌, eqb, ltb, leb, length, take, drop, get_or}
+-- field at a column (`field_at`), what reading one field answers (`field_read`), what is known after some of its
+-- columns (`running_at`), and the columns in which a number is written (`columns`).
+use Rattle.std.specs.Prelude.{Bool, true, false, not, ◌&&◌, List, [], ◌∷◌, ◌++◌, ℕ, zero, suc, ◌+◌, ◌-◌, ◌*◌, ◌/◌, ◌%◌}
+use Rattle.std.specs.Prelude.{◌^◌, eqb, ltb, leb, length, take, drop, get_or}
 use Rattle.theory.specs.Sums.{pick, when}
 use Rattle.theory.specs.Tests.{some}
 use Rattle.theory.specs.Lists.{keep, up_to}
@@ -39,7 +40,8 @@ zero_from at (b ∷ bs) = Faulty at
 abbrev pub field_from : ℕ → List ℕ → Field
 field_from at [] = Faulty at
 field_from at (b ∷ bs) =
-    let r = field_from at bs in let d = digits_from at (b - 48) bs in on_class (class_of b) r (zero_from at bs) d (Faulty at)
+    let r = field_from at bs in let d = digits_from at (b - 48) bs in
+    on_class (class_of b) r (zero_from at bs) d (Faulty at)
 
 -- the field at a column (rules 2.4 and 2.5): a fault with fewer than six bytes left, and known by the column asked
 abbrev pub field_at : ℕ → List ℕ → Field

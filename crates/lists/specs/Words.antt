@@ -1,6 +1,6 @@
 -- An allocation as one number, in digits of base sixteen: seven for the bundles of the bidders 0 to 6 (what nobody owns
--- is 0's), then one for the owner of each place. Offers `word_of`, `digit`, which reads a word, `lot_words`, those of all
--- allocations, and the market by words. A place's share of a bundle is a parameter.
+-- is 0's), then one for the owner of each place. Offers `word_of`, `digit`, which reads a word, `lot_words`, those of
+-- all allocations, and the market by words. A place's share of a bundle is a parameter.
 use Rattle.std.specs.Prelude.{◌≡◌, List, [], ◌∷◌, ◌++◌, map, ℕ, ◌+◌, ◌*◌, ◌/◌, ◌%◌, ◌^◌, ◌≤◌, ◌<◌, length, get_or}
 use Rattle.theory.specs.Lists.{◌∈◌, tabulate}
 use Rattle.theory.specs.Markets.{Market}

@@ -39,7 +39,8 @@ module _ (m n : ℕ) (ws : List ℕ) where
   -- the allocations listed are those of rule 5.6
   pub allocations_all : (a : List ℕ) → (a ∈ O.lists) ↔ ((length a ≡ n) × ((o : ℕ) → o ∈ a → o ≤ m))
   allocations_all a = (
-    λ h. let (l, from) = allocation_from (zero_first m) n h in (l, λ o k. omega (arith, up_to_from (suc m) 0 (from o k))),
+    λ h. let (l, from) = allocation_from (zero_first m) n h in
+        (l, λ o k. omega (arith, up_to_from (suc m) 0 (from o k))),
     λ h. allocation_in (zero_first m) n a h.0 (λ o k. up_to_in (suc m) 0 (omega (arith, h.1 o k))),
   )
 

@@ -36,7 +36,8 @@ module _ (O : Offer) (regular : Regular O) where
       settled.direct-first (market O) (worth_of O) (regular.some 0).1 [] before order h e
 
   pub direct_pays : (i : ℕ) → Among O.buyers 1 i →
-      direct_payment O i + greatest_without O 0 ≡ greatest_without O i + worth_of O i ((market O).holds (direct_owners O) i)
+      direct_payment O i + greatest_without O 0
+          ≡ greatest_without O i + worth_of O i ((market O).holds (direct_owners O) i)
   unfolding direct_owners direct_payment
   direct_pays zero r = absurd (omega arith)
   direct_pays (suc k) r =

@@ -47,7 +47,8 @@ after_long O (x ∷ l) ps e =
 
 prices_long : (O : Offer) (k : ℕ) → length (prices_after O k) ≡ 16 * (layout O).rows
 unfolding prices_after start_prices
-prices_long O k = after_long O (take k (sale_sets O)) (start_prices O) (length-replicate {A = ℕ} (16 * (layout O).rows) 0)
+prices_long O k =
+    after_long O (take k (sale_sets O)) (start_prices O) (length-replicate {A = ℕ} (16 * (layout O).rows) 0)
 
 pub last_long : (O : Offer) (k : ℕ) (ps : List ℕ) (f : ℕ) → length ps ≡ 16 * (layout O).rows →
     length (prices_from O k ps f) ≡ 16 * (layout O).rows
@@ -84,7 +85,8 @@ module _ (O : Offer) (ps : List ℕ) where
   )
 
   uce_to : UCE O ps → Universal (market O) bundle (worth_of O) (price_at O ps) (the_auction O).economies
-  uce_to u y k = let (e, l, numbers) = economy-number O y k in let (a, c) = u e l in (a, (supports_is y e numbers a).0 c)
+  uce_to u y k = let (e, l, numbers) = economy-number O y k in let (a, c) = u e l in
+      (a, (supports_is y e numbers a).0 c)
 
   uce_from : Universal (market O) bundle (worth_of O) (price_at O ps) (the_auction O).economies → UCE O ps
   uce_from u e l =

@@ -1,7 +1,8 @@
 -- What is claimed of an offer and its sale (`Claimed`): of its allocations, at any prices (`AtPrices`, with universal
 -- competitive equilibria as the paper has them), at every round (`AtRound`), from one to the next (`FromRound`), and of
 -- all rounds (`Ascending`, demand 2).
-use Rattle.std.specs.Prelude.{◌≡◌, ◌⊎◌, ◌↔◌, Bool, true, false, not, ◌&&◌, List, ℕ, suc, ◌+◌, ◌-◌, ◌*◌, ◌^◌, ◌≤◌, ◌<◌, length, get_or, replicate}
+use Rattle.std.specs.Prelude.{◌≡◌, ◌⊎◌, ◌↔◌, Bool, true, false, not, ◌&&◌, List, ℕ, suc, ◌+◌, ◌-◌, ◌*◌, ◌^◌, ◌≤◌, ◌<◌}
+use Rattle.std.specs.Prelude.{length, get_or, replicate}
 use Rattle.theory.specs.Sums.{Among, when}
 use Rattle.theory.specs.Lists.{◌∈◌, Ordered, sum_over}
 use Rattle.theory.specs.Markets.{sum_of, total}
@@ -43,7 +44,8 @@ module _ (O : Offer) where
   -- greatest takings among them, in which every bidder present, keen or not, holds a bundle of greatest payoff
   pub record Supports (ps : List ℕ) (e : ℕ) (a : List ℕ) : Type 0 where
     pub among : a ∈ economy O e
-    pub seller : (c : List ℕ) → c ∈ economy O e → total (market O) (price_at O ps) c ≤ total (market O) (price_at O ps) a
+    pub seller : (c : List ℕ) → c ∈ economy O e →
+        total (market O) (price_at O ps) c ≤ total (market O) (price_at O ps) a
     pub buyers : (i : ℕ) → Bids O i → present_in e i ≡ true → Demanded ps i ((market O).holds a i)
 
   -- definition 2: a universal competitive equilibrium
@@ -97,7 +99,8 @@ module _ (O : Offer) where
     pub undersupplied_means : (set : ℕ) → (undersupplied O ps set ≡ true) ↔
         (((i : ℕ) → Bids O i → member O set i ≡ true → is_keen O ps i ≡ true)
         × ((e : ℕ) × (e ≤ O.buyers) × ((a : List ℕ) → a ∈ economy O e → fits O ps e a ≡ true →
-        ((i : ℕ) → Bids O i → present_in e i ≡ true → member O set i ≡ true → Demanded ps i ((market O).holds a i)) → ⊥)))
+        ((i : ℕ) → Bids O i → present_in e i ≡ true → member O set i ≡ true →
+            Demanded ps i ((market O).holds a i)) → ⊥)))
     -- what a set supplied in one economy is, by the same
     pub supplied_means : (e set : ℕ) → (supplied_at ps e set ≡ true) ↔
         ((a : List ℕ) × (a ∈ economy O e) × (fits O ps e a ≡ true)

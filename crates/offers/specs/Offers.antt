@@ -1,6 +1,6 @@
 -- What is on offer, and the words of sections 1 and 4 of the rules for it: worths, allocations, economies, demand,
--- fitting allocations and undersupplied sets. An `Offer` is what change requests vary; that of a lot sheet is `lots_of`.
--- Prices are a list, sixteen to a bidder. Payoffs are kept 65,535 higher, so that none is negative.
+-- fitting allocations and undersupplied sets. An `Offer` is what change requests vary; that of a lot sheet is
+-- `lots_of`. Prices are a list, sixteen to a bidder. Payoffs are kept 65,535 higher, so that none is negative.
 use Rattle.std.specs.Prelude.{◌≡◌, Bool, List, ℕ, zero, suc, ◌-◌, ◌^◌, eqb}
 use Rattle.theory.specs.Sums.{pick, Among}
 use Rattle.theory.specs.Lists.{most, keep}

@@ -1,7 +1,8 @@
 -- Owner lists as the allocations of an auction. Each lot has an owner, a buyer's number or 0 for unsold. Offers the
 -- list of all `allocations` and its order, what a buyer holds, the economies, the numbers of sets of buyers, and the
 -- auction (`auction_of`). The owners' order is a parameter, and so is a lot's share of a bundle's number.
-use Rattle.std.specs.Prelude.{◌≡◌, ◌⊎◌, Bool, true, not, ◌&&◌, List, [], ◌∷◌, ◌++◌, ℕ, zero, suc, ◌+◌, ◌-◌, ◌*◌, ◌^◌, eqb}
+use Rattle.std.specs.Prelude.{◌≡◌, ◌⊎◌, Bool, true, not, ◌&&◌, List, [], ◌∷◌, ◌++◌, ℕ, zero, suc, ◌+◌, ◌-◌, ◌*◌, ◌^◌}
+use Rattle.std.specs.Prelude.{eqb}
 use Rattle.theory.specs.Sums.{when}
 use Rattle.theory.specs.Lists.{keep, up_to}
 use Rattle.theory.specs.Markets.{Market}

@@ -1,7 +1,8 @@
 -- Prices as one list, sixteen to a row, and the quote that bidders with worths v make of them, at any prices. Each
 -- bidder has a row, and by it its bit in the number of a set. Offers `price`, `payoff`, `quote`, a round's raise
 -- (`raised`), and when a list `Holds` the prices of a sale's payoffs.
-use Rattle.std.specs.Prelude.{◌≡◌, Bool, true, ◌&&◌, ◌||◌, List, ℕ, suc, ◌+◌, ◌-◌, ◌*◌, ◌/◌, ◌^◌, ◌≤◌, ◌<◌, eqb, ltb, leb, get_or, replicate}
+use Rattle.std.specs.Prelude.{◌≡◌, Bool, true, ◌&&◌, ◌||◌, List, ℕ, suc, ◌+◌, ◌-◌, ◌*◌, ◌/◌, ◌^◌, ◌≤◌, ◌<◌, eqb, ltb}
+use Rattle.std.specs.Prelude.{leb, get_or, replicate}
 use Rattle.theory.specs.Sums.{pick, when, sum, Among}
 use Rattle.theory.specs.Lists.{most, tabulate, up_to}
 use Rattle.theory.specs.Markets.{Market, Table, Bidder, asks}

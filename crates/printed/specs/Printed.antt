@@ -1,6 +1,7 @@
 -- The printed sale (section 6 of the rules): the bytes that are printed of a sale's answer (`printed`), and of a sheet
 -- (`printed_sale`).
-use Rattle.std.specs.Prelude.{◌≡◌, ◌≢◌, List, [], ◌∷◌, ◌++◌, ℕ, ◌+◌, ◌^◌, ◌≤◌, ◌<◌, eqb, length, take, get_or, replicate}
+use Rattle.std.specs.Prelude.{◌≡◌, ◌≢◌, List, [], ◌∷◌, ◌++◌, ℕ, ◌+◌, ◌^◌, ◌≤◌, ◌<◌, eqb, length, take, get_or}
+use Rattle.std.specs.Prelude.{replicate}
 use Rattle.theory.specs.Sums.{Among, pick}
 use Rattle.theory.specs.Lists.{tabulate, over}
 use Rattle.fields.specs.Fields.{line_of, lines_of}
@@ -88,7 +89,8 @@ pub record PrintsSale (b o o' : List ℕ) (own : List Own) (text : List ℕ) : T
 -- what is claimed of printing, whatever the bytes
 pub record Prints : Type 0 where
   pub prints : (b o o' t t' : List ℕ) (r : ℕ) → PrintSays b o o' t t' r →
-      (text : List ℕ) × PrintsSale b o o' (unplaced 9 (round_limit (offer_of b) ≤ length o) ∷ []) text × Puts text t t' r
+      (text : List ℕ) × PrintsSale b o o' (unplaced 9 (round_limit (offer_of b) ≤ length o) ∷ []) text
+          × Puts text t t' r
   pub texts : (b o : List ℕ) → 59994 ≤ length o → (o' : List ℕ) × PrintsSale b o o' [] (printed_sale b)
   -- every printed number has at most six digits
   pub prints_fit : (b o o' : List ℕ) (r : Sale) → SaleSays b o o' r → Printable r

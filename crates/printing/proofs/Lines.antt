@@ -45,7 +45,8 @@ module _ (ns o : List ℕ) (k : ℕ) (l : List ℕ) (e : l ≡ over (fields_of (
 module _ (f : ℕ → List ℕ) (wide : ℕ) (each : (i : ℕ) → length (line_of (f i)) ≡ wide) where
   module _ (o : List ℕ) (k : ℕ) (l : List ℕ) (e : l ≡ over (lines_of (tabulate k 0 f)) o) where
     pub lines_long : wide * k ≤ length o → length l ≡ length o
-    lines_long room = ap length e ∙ over_long (lines_of (tabulate k 0 f)) o (omega (arith, lines-length f wide each k 0))
+    lines_long room =
+        ap length e ∙ over_long (lines_of (tabulate k 0 f)) o (omega (arith, lines-length f wide each k 0))
 
     -- the buffer from line k on comes back with a line
     pub lines_more : wide * k + wide ≤ length o → (at : ℕ) → at ≡ wide * k → (last vs : List ℕ) → vs ≡ f k →

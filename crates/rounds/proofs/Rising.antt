@@ -54,7 +54,8 @@ module _ (m top : ℕ) (ws ps r : List ℕ)
       (λ k _. ap (λ b. get_or ps k 0 + when b 1) (rising_same all x (k / 16) (k - 16 * (k / 16))))
 
 -- a raise adds at most 1
-pub step_small : (m all : ℕ) (ws : List ℕ) (x c : ℕ) (ps : List ℕ) → AtMost c ps → AtMost (c + 1) (step_at m all ws x ps)
+pub step_small : (m all : ℕ) (ws : List ℕ) (x c : ℕ) (ps : List ℕ) → AtMost c ps →
+    AtMost (c + 1) (step_at m all ws x ps)
 step_small m all ws x c ps h =
     raised_small m all (worth_table ws) (member x) (left (buyer_rows m) (worth_table ws) (all - 1) ps) ps c h
 

@@ -18,7 +18,8 @@ use Rattle.raising.specs.Raising.{Rows}
 -- 1 more than the number of the lowest undersupplied set at the prices ps, by the values; `top` is the bundle of all
 -- lots
 unfoldable pub lowest_at : ℕ → ℕ → ℕ → List ℕ → List ℕ → List ℕ → ℕ
-lowest_at m l top ws values ps = lowest_by (roster_in m l) shift (at values) (left (buyer_rows m) (worth_table ws) top ps)
+lowest_at m l top ws values ps =
+    lowest_by (roster_in m l) shift (at values) (left (buyer_rows m) (worth_table ws) top ps)
 
 -- the prices after a round that takes the set x, with bundles below `all`
 abbrev pub step_at : ℕ → ℕ → List ℕ → ℕ → List ℕ → List ℕ

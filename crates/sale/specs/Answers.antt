@@ -1,6 +1,6 @@
 -- What the public functions answer, for every sheet, record and price table: `demand_answer`, `settled_answer`,
--- `sale_answer`, `sale_record`; that a sale has one answer (`OneAnswer`), and what is said of prices that are settled or
--- not (`SettledAnswers`).
+-- `sale_answer`, `sale_record`; that a sale has one answer (`OneAnswer`), and what is said of prices that are settled
+-- or not (`SettledAnswers`).
 use Rattle.std.specs.Prelude.{◌≡◌, ◌↔◌, true, false, List, ℕ, ◌<◌, eqb, leb, length, replicate}
 use Rattle.theory.specs.Lists.{over}
 use Rattle.offers.specs.Offers.{Offer, offer_of, demand_set, is_keen, lowest}

@@ -33,7 +33,8 @@ module _ (b : List ℕ) (w : Sheet) (buyers : (1 ≤ w.buyers) × (w.buyers ≤ 
   abbrev n : ℕ
   n = w.lots
 
-  field_read_lem : (at v : ℕ) → at + 6 ≤ length b → v ≤ 999999 → take 6 (drop at b) ≡ columns 6 v → field_at at b ≡ Number v
+  field_read_lem : (at v : ℕ) → at + 6 ≤ length b → v ≤ 999999 → take 6 (drop at b) ≡ columns 6 v →
+      field_at at b ≡ Number v
   field_read_lem at v room small e = (field_canonical b at v).1 (room, small, e)
 
   buyers_read : field_at 0 b ≡ Number m

@@ -80,7 +80,8 @@ module _ (b : List ℕ) where
   tells j = (omega arith, omega arith)
 
   -- the number is k exactly if the questions below k get a "yes" and k gets none; it is 0 exactly if all get one
-  pub first_no : (k : ℕ) → 1 ≤ k → ((sheet_fault b).number ≡ k) ↔ (((j : ℕ) → j < k → Question b j) × (Question b k → ⊥))
+  pub first_no : (k : ℕ) → 1 ≤ k → ((sheet_fault b).number ≡ k) ↔
+      (((j : ℕ) → j < k → Question b j) × (Question b k → ⊥))
   first_no zero l = absurd (omega arith)
   first_no (suc k) l =
       let (to, back) = first_iff suc (λ n. n - 1) (from 1) (sheet_fault b).number (λ j _. tells j) questions-first k

@@ -1,5 +1,5 @@
--- What the public functions that read a sheet answer, refused or not: `worths_read`, `sheet_read`. (`field_read` stands in
--- Fields.)
+-- What the public functions that read a sheet answer, refused or not: `worths_read`, `sheet_read`. (`field_read` stands
+-- in Fields.)
 use Rattle.std.specs.Prelude.{List, ℕ, replicate}
 use Rattle.theory.specs.Sums.{pick, when}
 use Rattle.sheet.specs.declared.Fault.{Fault}

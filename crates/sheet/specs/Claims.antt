@@ -1,7 +1,8 @@
 -- The questions as propositions, one for each of rules 3.1 to 3.8, to read a sheet's fault by (`Question`); what is
 -- wrong at an offset with 6, 7 and 8 (`WrongAt`, `LeastPlace`); what is known of an accepted sheet (`Shape`, `Grows`);
 -- and all that is claimed of sheets (`Sheets`).
-use Rattle.std.specs.Prelude.{◌≡◌, ◌≢◌, ◌⊎◌, ◌↔◌, true, List, [], ◌∷◌, ◌++◌, ℕ, suc, ◌+◌, ◌-◌, ◌*◌, ◌^◌, ◌≤◌, ◌<◌, length, take, drop, get_or}
+use Rattle.std.specs.Prelude.{◌≡◌, ◌≢◌, ◌⊎◌, ◌↔◌, true, List, [], ◌∷◌, ◌++◌, ℕ, suc, ◌+◌, ◌-◌, ◌*◌, ◌^◌, ◌≤◌, ◌<◌}
+use Rattle.std.specs.Prelude.{length, take, drop, get_or}
 use Rattle.fields.specs.declared.Field.TheVariants.{Number, Faulty}
 use Rattle.fields.specs.Fields.{field_at, columns}
 use Rattle.numbers.specs.Numbers.{bit}

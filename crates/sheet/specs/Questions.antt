@@ -1,6 +1,7 @@
--- The questions put to a sheet (rules 3.1 to 3.8), as tests. Offers the fault of a sheet (`sheet_fault`): the number and
--- place of the first "no", 0 and 0 for none.
-use Rattle.std.specs.Prelude.{Bool, true, false, not, ◌&&◌, List, ℕ, zero, suc, ◌+◌, ◌-◌, ◌*◌, ◌/◌, ◌%◌, ◌^◌, eqb, ltb, leb, length, get_or}
+-- The questions put to a sheet (rules 3.1 to 3.8), as tests. Offers the fault of a sheet (`sheet_fault`): the number
+-- and place of the first "no", 0 and 0 for none.
+use Rattle.std.specs.Prelude.{Bool, true, false, not, ◌&&◌, List, ℕ, zero, suc, ◌+◌, ◌-◌, ◌*◌, ◌/◌, ◌%◌, ◌^◌, eqb, ltb}
+use Rattle.std.specs.Prelude.{leb, length, get_or}
 use Rattle.theory.specs.Sums.{pick}
 use Rattle.theory.specs.Tests.{◌⊃◌, every, least}
 use Rattle.sheet.specs.declared.Fault.{Fault}

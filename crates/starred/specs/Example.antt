@@ -16,7 +16,8 @@ input = row (2 ∷ 2 ∷ []) ++ row (2 ∷ 0 ∷ 2 ∷ []) ++ row (0 ∷ 1 ∷ 3
 
 -- its printed sale, whole
 abbrev pub output : List ℕ
-output = row (0 ∷ 2 ∷ 2 ∷ 2 ∷ []) ++ row (1 ∷ 1 ∷ []) ++ row (2 ∷ 2 ∷ []) ++ row (1 ∷ 2 ∷ 0 ∷ 2 ∷ []) ++ row (2 ∷ 0 ∷ 0 ∷ 0 ∷ [])
+output = row (0 ∷ 2 ∷ 2 ∷ 2 ∷ []) ++ row (1 ∷ 1 ∷ []) ++ row (2 ∷ 2 ∷ []) ++ row (1 ∷ 2 ∷ 0 ∷ 2 ∷ [])
+    ++ row (2 ∷ 0 ∷ 0 ∷ 0 ∷ [])
 
 -- table 3 of the paper, where rounds and lots differ, and so do prices, discounts and payments
 abbrev pub table_3 : List ℕ

@@ -43,7 +43,8 @@ module _
   pay_out p et = let q : member k i ≡ false = sym eb ∙ p in omega (arith, rw q at more)
 
 -- the greatest gain in economy e, with set k
-pub most-start : (m sets : ℕ) (f : ℕ → ℕ) → sets ≡ 2 ^ m → max 0 (most f (up_to (sets - 0) 0)) ≡ most f (up_to (2 ^ m) 0)
+pub most-start : (m sets : ℕ) (f : ℕ → ℕ) → sets ≡ 2 ^ m →
+    max 0 (most f (up_to (sets - 0) 0)) ≡ most f (up_to (2 ^ m) 0)
 most-start m sets f e = rw (sub-zero, e) (omega arith)
 
 module _ (m : ℕ) (gs : List ℕ) (e k best best' : ℕ) where
@@ -159,7 +160,8 @@ pub every-start : (n m : ℕ) (t : ℕ → Bool) → n < 64 → (bit n 184467440
     ≡ every (m + 1) 0 t
 every-start n m t h = rw (bit_ones n h, sub-zero)
 
-pub every_more : (n word s word' : ℕ) (x : Bool) → bit n s ≡ x → word' ≡ bit_and word s → bit n word' ≡ (bit n word && x)
+pub every_more : (n word s word' : ℕ) (x : Bool) → bit n s ≡ x → word' ≡ bit_and word s →
+    bit n word' ≡ (bit n word && x)
 every_more n word s word' x es e = rw (e, bit_and_lem n word s, es)
 
 -- the set of the keen buyers, with buyer i

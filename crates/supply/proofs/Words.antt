@@ -1,6 +1,6 @@
--- Words of 64 bits as sets of sets. Offers the bits of words that two others make (`bit_or_lem`, `bit_and_lem`), the words of
--- subsets (`table_subsets`), and which sets are inside an economy and covered by another set there (`inside_but`,
--- `covers_all`, `covers_but`). Numbers below 64 are tried out.
+-- Words of 64 bits as sets of sets. Offers the bits of words that two others make (`bit_or_lem`, `bit_and_lem`), the
+-- words of subsets (`table_subsets`), and which sets are inside an economy and covered by another set there
+-- (`inside_but`, `covers_all`, `covers_but`). Numbers below 64 are tried out.
 use mathlib.Core.Path.{◌≡◌, refl, sym, ap, ◌∙◌}
 use mathlib.Core.Bool.{Bool, true, false, not, ◌&&◌, ◌||◌}
 use mathlib.Core.List.{List, [], ◌∷◌}

@@ -201,7 +201,8 @@ filled_copy n k l t h e g = ext_get_or 0 t l (g.long ∙ sym e) (λ j q. g.done 
 
 -- a value is put in its place if it is greater
 module _ (l : List ℕ) (k total n : ℕ) where
-  pub put_rises : k < length l → get_or l k 0 < total → get_or (set l k total) n 0 ≡ max (get_or l n 0) (when (eqb k n) total)
+  pub put_rises : k < length l → get_or l k 0 < total →
+      get_or (set l k total) n 0 ≡ max (get_or l n 0) (when (eqb k n) total)
   put_rises h r =
       elim (ℕ_discrete k n) [
         | yes e ↦ rw (← e, eq-eqb k k refl, get_or-set_same l k total 0 h) (omega arith)

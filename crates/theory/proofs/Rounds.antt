@@ -106,7 +106,8 @@ module _ {S : Type 0} (choose : S → ℕ) (step : ℕ → S → S) where
           (λ e. rw e e)
           (λ x e. rw e (choices_settle f (step x σ) (good σ x g e) (omega (arith, falls σ x g e))))
 
-      pub choices_sizes : (f : ℕ) (σ : S) → Good σ → sum_over size (taken f σ) + left (after step σ (taken f σ)) ≡ left σ
+      pub choices_sizes : (f : ℕ) (σ : S) → Good σ →
+          sum_over size (taken f σ) + left (after step σ (taken f σ)) ≡ left σ
       choices_sizes zero σ g = omega arith
       choices_sizes (suc f) σ g =
           by_choice (choose σ)

@@ -1,6 +1,7 @@
 -- The questions put to a trial's numbers, as propositions (`TrialQuestion`), and all that is claimed of trial sheets
 -- (`Trials`).
-use Rattle.std.specs.Prelude.{◌≡◌, ◌≢◌, ◌⊎◌, ◌↔◌, List, [], ◌∷◌, ℕ, suc, min, ◌+◌, ◌-◌, ◌*◌, ◌^◌, ◌≤◌, ◌<◌, length, take, get_or}
+use Rattle.std.specs.Prelude.{◌≡◌, ◌≢◌, ◌⊎◌, ◌↔◌, List, [], ◌∷◌, ℕ, suc, min, ◌+◌, ◌-◌, ◌*◌, ◌^◌, ◌≤◌, ◌<◌, length}
+use Rattle.std.specs.Prelude.{take, get_or}
 use Rattle.theory.specs.Lists.{over}
 use Rattle.fields.specs.Fields.{fields_of, line_of}
 use Rattle.sheet.specs.Tables.{cells}

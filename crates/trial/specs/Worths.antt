@@ -28,7 +28,8 @@ drawn_worth top fewer value = min 9999 (fewer + value % suc top)
 abbrev pub row_up_to : ℕ → ℕ → (ℕ → ℕ) → ℕ → List ℕ
 row_up_to n top draws zero = []
 row_up_to n top draws (suc c) =
-    let row = row_up_to n top draws c in row ++ (drawn_worth top (most_fewer n (row_worth row) (suc c)) (draws (suc c)) ∷ [])
+    let row = row_up_to n top draws c in
+    row ++ (drawn_worth top (most_fewer n (row_worth row) (suc c)) (draws (suc c)) ∷ [])
 
 -- rule 12.3: the draw for bundle s on line i of sheet number N
 abbrev pub draw_for : ℕ → ℕ → ℕ → ℕ → ℕ

@@ -1,6 +1,6 @@
 -- The round trips: what is written is read as the list's table (`written_read`); a sheet's numbers are in the list's
--- order (`in_order_lem`), and an accepted sheet, read and written, gives its own bytes (`read_written`). The questions that
--- a list shares with a sheet are those of the sheet that it makes (`same_questions`).
+-- order (`in_order_lem`), and an accepted sheet, read and written, gives its own bytes (`read_written`). The questions
+-- that a list shares with a sheet are those of the sheet that it makes (`same_questions`).
 use mathlib.Core.Path.{◌≡◌, refl, sym, ap, ap₂, subst, ◌∙◌}
 use mathlib.Core.Logic.{inl, inr}
 use mathlib.Core.List.{List, [], ◌∷◌}
@@ -53,7 +53,8 @@ module _ (m n : ℕ) (vs : List ℕ) (room : ℕ) (yes_to : (j : ℕ) → ListQu
             ];
       }
 
-  pub bytes_accepted : ((sheet_fault (sheet_bytes m n vs)).number ≡ 0) × (sheet_of (sheet_bytes m n vs) ≡ list_sheet m n vs)
+  pub bytes_accepted : ((sheet_fault (sheet_bytes m n vs)).number ≡ 0)
+      × (sheet_of (sheet_bytes m n vs) ≡ list_sheet m n vs)
   unfolding sheet_bytes
   bytes_accepted = table_accepted m n (listed n vs) tabled
 

@@ -1,5 +1,6 @@
 -- The questions put to a list, as propositions (`ListQuestion`), and all that is claimed of writing sheets (`Writes`).
-use Rattle.std.specs.Prelude.{◌≡◌, ◌≢◌, ◌⊎◌, ◌↔◌, true, List, [], ◌∷◌, map, ℕ, min, ◌+◌, ◌-◌, ◌*◌, ◌^◌, ◌≤◌, ◌<◌, length, take, get_or}
+use Rattle.std.specs.Prelude.{◌≡◌, ◌≢◌, ◌⊎◌, ◌↔◌, true, List, [], ◌∷◌, map, ℕ, min, ◌+◌, ◌-◌, ◌*◌, ◌^◌, ◌≤◌, ◌<◌}
+use Rattle.std.specs.Prelude.{length, take, get_or}
 use Rattle.theory.specs.Lists.{over}
 use Rattle.numbers.specs.Numbers.{bit}
 use Rattle.fields.specs.Fields.{fields_of, line_of}

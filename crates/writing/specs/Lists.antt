@@ -1,5 +1,5 @@
--- A list of numbers in the sheet's order (rule 11.2): the sheet that it fills (`list_sheet`), the bytes in which that is
--- written (`sheet_bytes`), and a sheet's numbers as such a list (`in_order`).
+-- A list of numbers in the sheet's order (rule 11.2): the sheet that it fills (`list_sheet`), the bytes in which that
+-- is written (`sheet_bytes`), and a sheet's numbers as such a list (`in_order`).
 use Rattle.std.specs.Prelude.{◌≡◌, List, ℕ, zero, suc, ◌+◌, ◌-◌, ◌*◌, ◌/◌, ◌%◌, ◌^◌, ◌≤◌, ◌<◌, length, get_or}
 use Rattle.theory.specs.Lists.{tabulate}
 use Rattle.theory.specs.Markets.{Table}
