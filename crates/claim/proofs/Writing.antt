@@ -216,7 +216,7 @@ fields_line b l e small =
 pub typed_text : (m n : ℕ) (l b x x' : List ℕ) (w : Wrote) → b ++ (10 ∷ []) ≡ line (m ∷ n ∷ l) →
     ((k : ℕ) → get_or (m ∷ n ∷ l) k 0 ≤ 999999) → 559 ≤ length x → WriteSays m n l x x' w → (text : List ℕ)
     × (((sheet_text_of b).length ≡ length text)
-        × ((sheet_text_of b).bytes ≡ text ++ drop (length text) (replicate 559 0))
+    × ((sheet_text_of b).bytes ≡ text ++ drop (length text) (replicate 559 0))
     × (w.number ≡ 0 → text ≡ take w.length x') × (w.number ≢ 0 → text ≡ line (w.number ∷ 0 ∷ [])))
 typed_text m n l b x x' w e small long says =
     let is = fields_line b (m ∷ n ∷ l) e small in

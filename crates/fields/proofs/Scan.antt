@@ -126,7 +126,7 @@ pub column_goes : (f : Bool) (at v b : ℕ) (bs : List ℕ) → v ≡ pick f v 0
 column_goes f at v b bs w =
     by_class
     (λ b. breaks_rule f (ltb 0 (length bs)) b ≡ false →
-        scan f at v (b ∷ bs) ≡ scan (f || is_digit b) at (next v b) bs) b
+    scan f at v (b ∷ bs) ≡ scan (f || is_digit b) at (next v b) bs) b
     (λ e. rw e)
     (λ d h e.
     rw (digit_is d h, or-true) (digit_goes f at v d bs w h e ∙ ap (λ n. digits_from at n bs) (omega arith)))

@@ -125,7 +125,7 @@ module _ (at : ℕ) (l : List ℕ) where
 
 pub field_sum : (at : ℕ) (l : List ℕ) →
     field_from at l
-        ≡ pick (broken_by (length l) l) (Faulty at) (pick (some is_digit l) (Number (digits_sum l)) (Faulty at))
+    ≡ pick (broken_by (length l) l) (Faulty at) (pick (some is_digit l) (Number (digits_sum l)) (Faulty at))
 field_sum at l =
     let whole = rw (take-length, drop-length) at (left_field at l (length l) (omega arith)) in
     whole ∙ ap (pick (broken_by (length l) l) (Faulty at)) (by_test (some is_digit l) (λ e. rw e) (λ e. rw e))

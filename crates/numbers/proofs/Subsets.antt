@@ -25,8 +25,11 @@ bit_le j x b =
 -- a number below 2 ^ n has none but its first n bits
 pub bit_below : (n j x : ℕ) → x < 2 ^ n → bit j x ≡ true → j < n
 bit_below n j x h b =
-    elim (dec_lt j n) [ yes l ↦ l | no l ↦
-        absurd (omega (arith, bit_le j x b, pow_mono {i = n} {j = j} (omega arith))) ]
+    elim (dec_lt j n) [
+      | yes l ↦ l
+      | no l ↦
+          absurd (omega (arith, bit_le j x b, pow_mono {i = n} {j = j} (omega arith)))
+    ]
 
 -- and one that is not 0 has one of them
 pub bit-some : (n x : ℕ) → 1 ≤ x → x < 2 ^ n → (j : ℕ) × (j < n) × (bit j x ≡ true)

@@ -37,7 +37,7 @@ module _ (O : Offer) (regular : Regular O) where
 
   pub direct_pays : (i : ℕ) → Among O.buyers 1 i →
       direct_payment O i + greatest_without O 0
-          ≡ greatest_without O i + worth_of O i ((market O).holds (direct_owners O) i)
+      ≡ greatest_without O i + worth_of O i ((market O).holds (direct_owners O) i)
   unfolding direct_owners direct_payment
   direct_pays zero r = absurd (omega arith)
   direct_pays (suc k) r =

@@ -100,7 +100,7 @@ module _ (O : Offer) where
         (((i : ℕ) → Bids O i → member O set i ≡ true → is_keen O ps i ≡ true)
         × ((e : ℕ) × (e ≤ O.buyers) × ((a : List ℕ) → a ∈ economy O e → fits O ps e a ≡ true →
         ((i : ℕ) → Bids O i → present_in e i ≡ true → member O set i ≡ true →
-            Demanded ps i ((market O).holds a i)) → ⊥)))
+        Demanded ps i ((market O).holds a i)) → ⊥)))
     -- what a set supplied in one economy is, by the same
     pub supplied_means : (e set : ℕ) → (supplied_at ps e set ≡ true) ↔
         ((a : List ℕ) × (a ∈ economy O e) × (fits O ps e a ≡ true)

@@ -134,7 +134,7 @@ module _ {A : Type 0} {M : Market A} {L : Layout} {bits all top : ℕ} {v : Tabl
         (same_test _ _
         (λ e. (leb_means (π i) (v i s)).1 (omega (arith, (eqb_means (v i s + 65535 - asks v π i s) (π i + 65535)).0 e)))
         (λ e. (eqb_means (v i s + 65535 - asks v π i s) (π i + 65535)).1
-            (omega (arith, (leb_means (π i) (v i s)).0 e))))
+        (omega (arith, (leb_means (π i) (v i s)).0 e))))
 
     pub keen_same : (quote L all v ps).keen i ≡ (own v π).keen i
     keen_same =

@@ -90,7 +90,7 @@ pub record PrintsSale (b o o' : List ℕ) (own : List Own) (text : List ℕ) : T
 pub record Prints : Type 0 where
   pub prints : (b o o' t t' : List ℕ) (r : ℕ) → PrintSays b o o' t t' r →
       (text : List ℕ) × PrintsSale b o o' (unplaced 9 (round_limit (offer_of b) ≤ length o) ∷ []) text
-          × Puts text t t' r
+      × Puts text t t' r
   pub texts : (b o : List ℕ) → 59994 ≤ length o → (o' : List ℕ) × PrintsSale b o o' [] (printed_sale b)
   -- every printed number has at most six digits
   pub prints_fit : (b o o' : List ℕ) (r : Sale) → SaleSays b o o' r → Printable r

@@ -154,9 +154,9 @@ module _
   -- answers that have the direct way's owners and payments
   pub no_gain_by : (owners payments owners' payments' : List ℕ) →
       owners ≡ four (direct_owners (offer_of b)) →
-          payments ≡ per_buyer (sheet_of b).buyers (direct_payment (offer_of b)) →
+      payments ≡ per_buyer (sheet_of b).buyers (direct_payment (offer_of b)) →
       owners' ≡ four (direct_owners (offer_of c)) →
-          payments' ≡ per_buyer (sheet_of c).buyers (direct_payment (offer_of c)) →
+      payments' ≡ per_buyer (sheet_of c).buyers (direct_payment (offer_of c)) →
       NoGain (offer_of b) i owners payments owners' payments'
   no_gain_by owners payments owners' payments' eo ep eo' ep' =
       let there : Among (sheet_of c).buyers 1 i = omega (arith, alike.buyers) in

@@ -131,7 +131,7 @@ pub record AlikeBut (i : ℕ) (w v : Sheet) : Type 0 where
 abbrev pub NoGain : Offer → ℕ → List ℕ → List ℕ → List ℕ → List ℕ → Type 0
 NoGain O i owners payments owners' payments' =
     worth_of O i (bundle_in O i owners') + number_in i payments
-        ≤ worth_of O i (bundle_in O i owners) + number_in i payments'
+    ≤ worth_of O i (bundle_in O i owners) + number_in i payments'
 
 pub record Outcomes : Type 0 where
   -- a sheet that a sale accepts the direct way accepts, and their owners and payments are alike, place for place

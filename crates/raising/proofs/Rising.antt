@@ -223,7 +223,7 @@ module _ (m all : ℕ) (ws : List ℕ) (x : ℕ) (π : ℕ → ℕ) (ps : List �
     rows_in p next so_far left el =
         ap (raised_row all ws i left) so_far
         ∙ (risen_then (rise i) (rise (i + 1)) ps (rising (buyer_rows 6) all (worth_table ws) (eqb i) (λ _. left))
-            (λ j s.
+        (λ j s.
         elim (ℕ_discrete i (suc j)) [
           | yes e ↦
               let has : member x (suc j) ≡ true = ap (member x) (sym e) ∙ p in

@@ -47,7 +47,7 @@ module _ (b o o' : List ℕ) (r : Sale) (says : SaleSays b o o' r) where
   sale_open z =
       let none = sym sale_number ∙ z in
       let (accepted, room) = asked_none 9 (leb (round_limit (offer_of b)) (length o)) (sheet_fault b)
-          (omega arith) none in
+      (omega arith) none in
       record {
         accepted = accepted;
         room = leb-true (round_limit (offer_of b)) (length o) room;

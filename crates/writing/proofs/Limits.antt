@@ -131,7 +131,7 @@ module _ (m n : ℕ) (vs : List ℕ) (room : ℕ) where
       (λ e4.
       let en : cap n ≡ n = omega (arith, (between_means 4 n).0 e4) in
       ap (λ x. write_fault x (cap n) (map cap vs) room) em ∙ ap (λ x. write_fault m x (map cap vs) room) en
-          ∙ capped_list)
+      ∙ capped_list)
       (λ e4.
       bad_lots (cap m) (cap n) (map cap vs) room (cap_between 6 m (omega arith) ∙ e3)
       (cap_between 4 n (omega arith) ∙ e4)
