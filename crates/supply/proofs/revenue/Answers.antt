@@ -1,12 +1,15 @@
 use Rattle.std.proofs.Common.{arith}
 use Rattle.theory.specs.Sums.{when}
 use Rattle.theory.specs.Coalitions.{inside}
-use Rattle.theory.proofs.Loops.{most_more}
+use Rattle.theory.proofs.Loops.{most_more, most_done}
 use Rattle.owners.specs.Quick.{present_in, roster}
 use Rattle.supply.specs.Supply.{at}
-use Rattle.supply.proofs.Choosing.{best_rises, best_outside, best_stays}
+use Rattle.supply.proofs.Choosing.{most-start, best_rises, best_outside, best_stays}
 use Rattle.supply.proofs.revenue.Goals as goal
 use Rattle.supply.proofs.revenue.Goals.{then-best-g+then-is_inside, then-best-g+else-is_inside, else-best-g}
+
+pub loop-k-init : goal.loop-k-init
+loop-k-init c = (omega arith, most-start c.args.buyers c.args.sets _ c.requires.1.is)
 
 pub loop-k-preserved : goal.loop-k-preserved
 loop-k-preserved c =
@@ -32,3 +35,6 @@ loop-k-preserved c =
         step (best_stays z.buyers z.gains.now z.economy l.k l.best best w.if-best-g.false w.best-is),
       )
     ]
+
+pub returns : goal.returns
+returns c = most_done c.args.sets c.loop-k.k c.loop-k-test.false _ _ _ c.loop-k.invariant.1
