@@ -5,7 +5,8 @@ use Rattle.demand.proofs.demand_set.Goals as goal
 use Rattle.demand.proofs.demand_set.Goals.{then-wants, else-wants}
 
 pub loop-s-init : goal.loop-s-init
-loop-s-init c = gathered_none ((quoted c.args.bundles c.args.worths.now c.args.prices.now).wants c.args.i) c.args.bundles
+loop-s-init c =
+    gathered_none ((quoted c.args.bundles c.args.worths.now c.args.prices.now).wants c.args.i) c.args.bundles
 
 pub loop-s-preserved : goal.loop-s-preserved
 loop-s-preserved c =
