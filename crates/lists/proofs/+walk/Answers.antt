@@ -59,6 +59,9 @@ returns-then-left-eq0 t c =
           ∙ whole_end z.owners z.lots z.left (share_in z.shares.now) z.order.now c.if-left-eq0.true),
     )
 
+pub loop-i-init : goal.loop-i-init
+loop-i-init t c = (omega arith, omega arith, refl)
+
 pub offset_bounds-out-at : goal.offset_bounds-out-at
 offset_bounds-out-at t c =
     let a = (goal.at.offset_bounds-out-at t c).After-with_owner-next in omega (arith, long a, fits a)
