@@ -1,5 +1,6 @@
 use Rattle.std.proofs.Common.{◌≡◌, ◌-◌, ◌*◌, ◌^◌, arith, ap}
-use Rattle.printing.proofs.Lines.{lines_more}
+use Rattle.std.proofs.Math.Nat.{mul-le-mul_left}
+use Rattle.printing.proofs.Lines.{lines_long, lines_more}
 use Rattle.sheet.specs.Sheets.{line_length, line_worths}
 use Rattle.sheet.proofs.Writing.{row_long}
 use Rattle.writing.specs.Lists.{list_sheet}
@@ -10,8 +11,12 @@ pub put_line-requires : goal.put_line-requires
 put_line-requires c =
     let size : c.bundles-size.result - 1 ≡ 2 ^ c.args.n - 1 = ap (λ x. x - 1) c.bundles-size.ensures.is in
     let wide = c.line_length-wide.ensures.is in
-    let room = lines_within _ _ _ c.requires.0 _ _ size wide _ _ c.requires.1 c.loop-i-test.true in (
-      row_fits _ _ _ c.requires.0 _ _ size wide _ c.loop-i-test.true c.loop-i.out (omega (arith, room)),
+    let room = lines_within _ _ _ c.requires.0 _ _ size wide _ _ c.requires.1 c.loop-i-test.true in
+    let w = list_sheet c.args.m c.args.n c.args.worths.now in
+    let before = mul-le-mul_left {m = c.loop-i.i} {n = c.args.m} (line_length c.args.n) c.loop-i.invariant.0 in
+    let long = lines_long (line_worths w) (line_length c.args.n) (row_long w) c.args.out.now c.loop-i.i c.loop-i.out
+    c.loop-i.invariant.1 (omega (arith, c.requires.1, before)) in (
+      row_fits _ _ _ c.requires.0 _ _ size wide _ c.loop-i-test.true c.loop-i.out (omega (arith, long, room)),
       row_small _ _ _ c.requires.0 _ _ size wide _ c.loop-i-test.true,
     )
 

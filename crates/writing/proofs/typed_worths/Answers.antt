@@ -1,8 +1,11 @@
-use Rattle.std.proofs.Common.{◌≡◌, suc, ◌+◌, arith, sym, ap, ◌∙◌}
+use Rattle.std.proofs.Common.{◌≡◌, refl, suc, ◌+◌, arith, sym, ap, ◌∙◌}
 use Rattle.theory.proofs.Lists.{tabulate_same, tabulate-shift}
-use Rattle.theory.proofs.Loops.{filled_all}
+use Rattle.theory.proofs.Loops.{filled_none, filled_all}
 use Rattle.writing.specs.Answers.{typed, first_typed}
 use Rattle.writing.proofs.typed_worths.Goals as goal
+
+pub loop-k-init : goal.loop-k-init
+loop-k-init c = filled_none _ 91 _ refl
 
 pub returns : goal.returns
 unfolding first_typed
