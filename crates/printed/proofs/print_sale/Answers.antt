@@ -1,6 +1,6 @@
 -- `printed::print_sale` meets its contract.
 use Rattle.printed.proofs.Fits.{prints_fit}
-use Rattle.printed.proofs.Printing.{print_refused}
+use Rattle.printed.proofs.Printing.{print_refused, print_settled}
 use Rattle.printed.proofs.print_sale.Goals as goal
 
 pub put_refusal-requires : goal.put_refusal-requires
@@ -11,3 +11,6 @@ returns-then-r-ne0 c = print_refused _ _ _ _ c.run_sale-r.ensures _ _ _ c.if-r-n
 
 pub put_settled-requires : goal.put_settled-requires
 put_settled-requires c = prints_fit _ _ _ _ c.run_sale-r.ensures
+
+pub returns : goal.returns
+returns c = print_settled _ _ _ _ c.run_sale-r.ensures _ _ _ c.if-r-ne0.false c.put_settled.ensures
