@@ -39,9 +39,12 @@ impl<'a> Entries<'a> {
     pub fn new(documents: &'a [String], functions: &'a [Function<'a>]) -> Self {
         let listed: BTreeSet<&str> = documents.iter().flat_map(|text| listed(text)).collect();
         let is_listed = |function: &&Function| listed.contains(function.name);
-        let public = functions.iter().filter(|function| function.is("pub"));
-        let (foreign, others): (Vec<&Function>, Vec<&Function>) =
-            public.partition(|function| function.is("extern"));
+        let (foreign, rattle): (Vec<&Function>, Vec<&Function>) =
+            functions.iter().partition(|function| function.is("extern"));
+        let others: Vec<&Function> = rattle
+            .into_iter()
+            .filter(|function| function.is("pub"))
+            .collect();
         let is_namesake = |other: &&&Function| foreign.iter().any(|it| it.name == other.name);
         Entries {
             namesakes: others.iter().filter(is_namesake).copied().collect(),

@@ -86,10 +86,10 @@ impl Display for Function<'_> {
     }
 }
 
-/// What stands in the first braces of a text, after a word at most.
+/// What stands in the first braces of a text, after a star and a word at most.
 fn in_braces(text: &str) -> Option<&str> {
     let (name, inside) = text.split_once('{')?;
-    if name.split_whitespace().count() > 1 {
+    if name.trim_start_matches('*').split_whitespace().count() > 1 {
         return None;
     }
     let mut depth = 1;
