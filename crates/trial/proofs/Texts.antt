@@ -1,7 +1,7 @@
 -- What `text_of` answers, of a sheet that is written (`lines_written`) or refused (`lines_refused`); what is printed of
 -- four numbers is what is written of them (`text_says`), and of other bytes nothing is (`text_typed`); it is never long
 -- (`text_longest`, `text_within`).
-use mathlib.Core.Path.{◌≡◌, sym, ap, ap₂, subst, ◌∙◌}
+use mathlib.Core.Path.{◌≡◌, refl, sym, ap, ap₂, subst, ◌∙◌}
 use mathlib.Core.Logic.{◌≢◌}
 use mathlib.Core.Bool.{true, false}
 use mathlib.Core.List.{List, [], ◌∷◌}
@@ -102,7 +102,7 @@ module _ (b : List ℕ) where
 
   pub text_none : trial_asked b ≡ false → trial_text b ≡ []
   unfolding trial_text
-  text_none e = ap (λ x. pick x sheet_lines []) e
+  text_none e = rw e refl
 
   pub text_lines : trial_asked b ≡ true → trial_text b ≡ sheet_lines
   unfolding trial_text
