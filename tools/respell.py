@@ -14,7 +14,6 @@ import re
 import sys
 
 WORD = re.compile(r"[^\s()\[\]{}⦃⦄,;.`\"]+")
-CAMEL = re.compile(r"(?<![a-zA-Z0-9])[a-z][a-z0-9]*[A-Z]")
 DECLARED = re.compile(r"^\s*(?:(?:abbrev|unfoldable|pub|data|record)\s+)*([^\s()\[\]{}⦃⦄,;.`\"]+)\s+:(?!=)", re.M)
 IMPORT = re.compile(r"(?:pub |ghost )?use ([^\s{;]+?)\.?(?:\{([^}]*)\}|\s+as\s+\S+)?;?\s*$", re.M)
 LEMMAS = {"in_order": "in_order_lem", "kept_above": "kept_above_lem", "lowest_by": "lowest_by_lem"}
@@ -124,7 +123,7 @@ def table(root):
             new = best or "_".join(ps)
         if new != n:
             turned[n] = new
-    return turned, own, variables, library, nouns
+    return turned, own, library
 
 
 def settle(turned, own, library):
@@ -167,7 +166,7 @@ def turn(text, names, own, comment):
 def main():
     words = [w for w in sys.argv[1:] if not w.startswith("--")]
     root = words[0] if words else "."
-    turned, own, _, library, _ = table(root)
+    turned, own, library = table(root)
     names = settle(turned, own, library)
     own = set(own) | set(names.values())
     if "--list" in sys.argv:
