@@ -11,6 +11,9 @@ chosen : (m l : ℕ) (words ps : List ℕ) (x : ℕ) → x ≡ lowest_in m l wor
     lowest_in m l words ps ≡ suc (x - 1)
 chosen m l words ps x e some = sym e ∙ omega arith
 
+pub lowest-x-requires : goal.lowest-x-requires
+lowest-x-requires c = let r = c.requires.0 in (r.words, r.few, omega (arith, r.judged), r.many)
+
 pub returns-then-x-eq0 : goal.returns-then-x-eq0
 returns-then-x-eq0 c =
     let a = c.args in

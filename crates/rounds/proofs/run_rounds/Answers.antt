@@ -21,6 +21,9 @@ gains-gains-requires c =
       valued_small c.args.buyers c.args.worths.now c.args.list.now values.result p.few p.small values.ensures,
     )
 
+pub revenues-revenues-requires : goal.revenues-revenues-requires
+revenues-revenues-requires c = (c.requires.few, omega (arith, c.requires.judged), c.sets_of-sets.ensures)
+
 pub loop-n-init : goal.loop-n-init
 loop-n-init c =
     let p = c.requires in
