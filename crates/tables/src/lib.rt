@@ -4,9 +4,23 @@
 
 ghost use Rattle.std.specs.Prelude.{◌+◌, ◌*◌, ◌≤◌, ◌<◌, length};
 ghost use Rattle.numbers.specs.Numbers.{Is};
-ghost use Rattle.owners.specs.Prices.{row, entry};
+ghost use Rattle.owners.specs.Prices.{rows, row, entry};
 
-use numbers::wide;
+// Those who bid: the buyers, 1 to `buyers`, and the house, bidder 0, where `low` is 0.
+#[derive(Clone, Copy)]
+pub struct Bidders {
+    pub low: usize,
+    pub buyers: usize,
+    pub ghost few: { (low ≤ 1) × (buyers ≤ 6) },
+}
+
+// A table, lent, with the bidders that have rows in it.
+#[derive(Clone, Copy)]
+pub struct Table<'a> {
+    pub bidders: Bidders,
+    pub numbers: &'a [u16],
+    pub ghost whole: { 16 * rows bidders.low ≤ length numbers.now },
+}
 
 // A bidder's row: the house, bidder 0, has the last.
 fn row_of(i: usize) -> usize
@@ -28,5 +42,5 @@ pub fn entry(table: &[u16], i: usize, s: usize) -> u32
         return 0;
     }
     let at = 16 * row_of(i) + s;
-    wide(table[at])
+    u32::from(table[at])
 }

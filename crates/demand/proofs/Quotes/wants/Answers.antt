@@ -1,7 +1,7 @@
 -- `demand::wants` meets its contract.
 use Rattle.std.proofs.Common.{eqb}
 use mathlib.Core.Path.{ap₂}
-use Rattle.demand.proofs.wants.Goals as goal
+use Rattle.demand.proofs.Quotes.wants.Goals as goal
 
 pub returns : goal.returns
-returns c = ap₂ eqb c.payoff_of.ensures.is c.best_of-top.ensures.is
+returns c = ap₂ eqb c.payoff_of.ensures.is c.best_of.ensures.is
