@@ -5,3 +5,4 @@ pub mod Walks
 pub mod Loops
 pub mod Packed
 pub mod Bundles
+pub mod Made

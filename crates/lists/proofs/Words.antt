@@ -8,7 +8,7 @@ use mathlib.Core.List.Memᴰ
 use mathlib.Core.List.Memᴰ.{head as here}
 use mathlib.Core.List.Memᴰ.{tail as there}
 use Prim.Native.Nat.{ℕ, zero, suc, ◌+◌, ◌-◌, ◌*◌, ◌/◌, ◌%◌, ◌^◌, ◌≤◌, ◌<◌}
-use native.Mathlib.Nat.{zero-add, one-mul, mod-eq_of_lt, div-one, zero-div, pow-zero, pow-succ', div-div-eq-div-mul}
+use native.Mathlib.Nat.{zero-add, mod-eq_of_lt, div-one, zero-div, pow-zero, pow-succ', div-div-eq-div-mul}
 use native.Mathlib.Nat.{pow-le-pow_right}
 use native.Mathlib.Numerals.{add-one}
 use native.Mathlib.Decide.{ℕ_discrete, dec_le}
@@ -16,7 +16,7 @@ use native.Mathlib.Omega.{arith}
 use lib.Dec.{eqb, lit<}
 use lib.ListN.{length, take, drop, get_or, replicate, length-append, length-replicate, length-take, get_or-append}
 use lib.ListN.{drop_of_length-le}
-use lib.Pow.{pow-add, pow-lt}
+use lib.Pow.{pow-add}
 use lib.Seq.{get_or-append-add, get_or-take, drop-cons, length-take-le, ext_get_or}
 use borrow.Author.Tests.{eq-eqb, ne_eqb}
 use Rattle.theory.specs.Sums.{when}
@@ -36,9 +36,9 @@ sixteens zero = refl
 sixteens (suc k) = let e : 4 * suc k ≡ 4 + 4 * k = omega arith in
     rw (e, pow-add 2 4 (4 * k), sixteens k, pow-succ' 16 k) refl
 
--- 1 shifted to digit k
-pub shifted : (k : ℕ) → k < 16 → 1 * 2 ^ (4 * k) % 2 ^ 64 ≡ 16 ^ k
-shifted k h = rw one-mul (mod-eq_of_lt (pow-lt {i = 4 * k} {j = 64} (omega arith)) ∙ sixteens k)
+-- a number shifted to digit k
+shifted : (x k : ℕ) → x * 16 ^ k < 2 ^ 64 → x * 2 ^ (4 * k) % 2 ^ 64 ≡ x * 16 ^ k
+shifted x k h = rw (sixteens k) (mod-eq_of_lt h)
 
 digit_next : (k d x : ℕ) → d < 16 → digit (suc k) (d + 16 * x) ≡ digit k x
 digit_next k d x h =
@@ -70,14 +70,20 @@ pack_more (suc k) b o s f lo hi =
           rw (z, pow-succ', ne_eqb o b e, pack_more k (suc b) o s f (omega arith) (omega arith)) (omega arith)
     ]
 
--- what a place's owner adds is small
-pub added_small : (lot share o : ℕ) → lot < 4 → share ≤ 15 → o ≤ 6 → (share * 16 ^ o ≤ 15 * 16 ^ 6)
-    × (o * 16 ^ (7 + lot) ≤ 6 * 16 ^ 10)
-added_small lot share o short small few = (
-  product_small share (16 ^ o) 15 (16 ^ 6) small (pow-le-pow_right {n = 16} (lit< tt) few),
-  product_small o (16 ^ (7 + lot)) 6 (16 ^ 10) few (pow-le-pow_right {n = 16} (lit< tt) {i = 7 + lot} {j = 10}
-      (omega arith)),
-)
+-- what a place's owner adds, its share in the bundle and the owner's digit: shifted there, and small
+pub place_added : (place share o : ℕ) → place < 4 → share ≤ 15 → o ≤ 6 →
+    (share * 2 ^ (4 * o) % 2 ^ 64 ≡ share * 16 ^ o) × (o * 2 ^ (4 * (7 + place)) % 2 ^ 64 ≡ o * 16 ^ (7 + place))
+    × (share * 16 ^ o + o * 16 ^ (7 + place) ≤ 15 * 16 ^ 6 + 6 * 16 ^ 10)
+place_added place share o short small few =
+    let bundle : share * 16 ^ o ≤ 15 * 16 ^ 6 =
+    product_small share (16 ^ o) 15 (16 ^ 6) small (pow-le-pow_right {n = 16} (lit< tt) few) in
+    let owner : o * 16 ^ (7 + place) ≤ 6 * 16 ^ 10 =
+    product_small o (16 ^ (7 + place)) 6 (16 ^ 10) few
+    (pow-le-pow_right {n = 16} (lit< tt) {i = 7 + place} {j = 10} (omega arith)) in (
+      shifted share o (omega (arith, bundle)),
+      shifted o (7 + place) (omega (arith, owner)),
+      omega (arith, bundle, owner),
+    )
 
 pub lots_pack : (m n : ℕ) → m ≤ 6 → n ≤ 4 → {a : List ℕ} → a ∈ allocations (zero_first m) n → Packs single a
 lots_pack m n few short {a} h =

@@ -9,6 +9,9 @@ ghost use Rattle.owners.specs.Owners.{allocations, bundle_from, single};
 ghost use Rattle.owners.specs.Singles.{AtMost};
 ghost use Rattle.lists.specs.Words.{digit, owners_of, word_of, words_after, lot_words, share_in};
 
+use numbers::power;
+use std::array;
+
 // A digit of a word: a bundle, or an owner.
 pub fn digit_of(word: u64, k: usize) -> usize
     requires { k < 16 }
@@ -17,39 +20,11 @@ pub fn digit_of(word: u64, k: usize) -> usize
     ((word >> (4 * k)) % 16) as usize
 }
 
-// The owner of a place.
-fn owner_of(word: u64, j: usize) -> u8
-    requires { j < 4 }
-    ensures { result ≡ digit (7 + j) word }
-{
-    digit_of(word, 7 + j) as u8
-}
-
 // The owners of four places; places past the last hold 0.
 pub fn owners_of(word: u64) -> [u8; 4]
     ensures { result ≡ owners_of word }
 {
-    [
-        owner_of(word, 0),
-        owner_of(word, 1),
-        owner_of(word, 2),
-        owner_of(word, 3),
-    ]
-}
-
-// 1 at a digit.
-fn sixteen(k: usize) -> u64
-    requires { k < 16 }
-    ensures { result ≡ 16 ^ k }
-{
-    1u64 << (4 * k)
-}
-
-// An owner as a number.
-fn owner(x: u8) -> usize
-    ensures { result ≡ x }
-{
-    x as usize
+    array::from_fn(|place| digit_of(word, 7 + place) as u8)
 }
 
 // Buyer i's bundle in the first lots of an owner list.
@@ -57,17 +32,13 @@ pub fn bundle_of(owners: [u8; 4], lots: usize, i: usize) -> usize
     requires { lots ≤ 4 }
     ensures { Is (bundle_from single 0 i (take lots owners)) result 15 }
 {
-    let mut s: usize = 0;
-    let mut share: usize = 1;
-    let mut lot: usize = 0;
-    while lot < lots {
-        if owner(owners[lot]) == i {
-            s += share;
+    let mut bundle = 0;
+    for lot in 0..lots {
+        if usize::from(owners[lot]) == i {
+            bundle += power(lot);
         }
-        share = 2 * share;
-        lot += 1;
     }
-    s
+    bundle
 }
 
 // A word with an owner for one place more.
@@ -75,9 +46,9 @@ fn with_place(word: u64, place: usize, share: u64, o: usize) -> u64
     requires { (place < 4) × (share ≤ 15) × (o ≤ 6) × (word ≤ place * 16 ^ 11) }
     ensures { Is (word + (share * 16 ^ o + o * 16 ^ (7 + place))) result ((place + 1) * 16 ^ 11) }
 {
-    let bundle = share * sixteen(o);
-    let owner_digit = (o as u64) * sixteen(7 + place);
-    word + (bundle + owner_digit)
+    let bundle = share << (4 * o);
+    let owner = (o as u64) << (4 * (7 + place));
+    word + (bundle + owner)
 }
 
 // The word of the first lots of an owner list.
@@ -85,12 +56,9 @@ fn word_of(owners: [u8; 4], shares: &[u64], lots: usize) -> u64
     requires { AtMost 6 owners × AtMost 15 shares.now × (lots ≤ 4) × (lots ≤ length shares.now) }
     ensures { result ≡ word_of (share_in shares.now) (take lots owners) }
 {
-    let mut word: u64 = 0;
-    let mut j: usize = 0;
-    while j < lots {
-        let o = owner(owners[j]);
-        word = with_place(word, j, shares[j], o);
-        j += 1;
+    let mut word = 0;
+    for j in 0..lots {
+        word = with_place(word, j, shares[j], usize::from(owners[j]));
     }
     word
 }
@@ -126,13 +94,11 @@ fn walk(
         out[0] = word_of(owners, shares, lots);
         return 1;
     }
-    let mut at: usize = 0;
-    let mut i: usize = 0;
-    while i < order.len() {
-        let next = with_owner(owners, lots - left, order[i]);
+    let mut at = 0;
+    for owner in order {
+        let next = with_owner(owners, lots - left, *owner);
         let n = walk(&mut out[at..], order, shares, lots, next, left - 1);
         at += n;
-        i += 1;
     }
     at
 }

@@ -18,32 +18,32 @@ module _ {t : ℕ} (c : After-with_owner-next t) where
   begun = take (c.args.lots - c.args.left) c.args.owners
 
   abbrev so_far : List ℕ
-  so_far = written (share_in c.args.shares.now) c.args.order.now begun c.loop-i.i (c.args.left - 1)
+  so_far = written (share_in c.args.shares.now) c.args.order.now begun c.loop-owner.owner-index (c.args.left - 1)
 
-  here : length so_far ≡ c.loop-i.at
+  here : length so_far ≡ c.loop-owner.at
   here =
-      written_length (share_in c.args.shares.now) c.args.order.now begun c.loop-i.i (c.args.left - 1)
-      c.loop-i.invariant.0
-      ∙ sym c.loop-i.invariant.1
+      written_length (share_in c.args.shares.now) c.args.order.now begun c.loop-owner.owner-index (c.args.left - 1)
+      (omega arith)
+      ∙ sym c.loop-owner.invariant.0
 
-  fits : c.loop-i.at ≤ length c.args.out.now
+  fits : c.loop-owner.at ≤ length c.args.out.now
   fits =
       omega (
         arith,
-        c.loop-i.invariant.1,
-        written_room many c.loop-i.i c.args.left (length c.args.out.now) c.if-left-eq0.false (omega arith)
-            c.loop-i.invariant.0,
+        c.loop-owner.invariant.0,
+        written_room many c.loop-owner.owner-index c.args.left (length c.args.out.now) c.if-left-eq0.false (omega arith)
+            (omega arith),
       )
 
-  long : length c.loop-i.out ≡ length c.args.out.now
-  long = ap length c.loop-i.invariant.2 ∙ over_long so_far c.args.out.now (omega (arith, here, fits))
+  long : length c.loop-owner.out ≡ length c.args.out.now
+  long = ap length c.loop-owner.invariant.1 ∙ over_long so_far c.args.out.now (omega (arith, here, fits))
 
-  fits_more : c.loop-i.at + many ^ (c.args.left - 1) ≤ length c.args.out.now
+  fits_more : c.loop-owner.at + many ^ (c.args.left - 1) ≤ length c.args.out.now
   fits_more =
       omega (
         arith,
-        c.loop-i.invariant.1,
-        next_room many c.loop-i.i c.args.left (length c.args.out.now) c.if-left-eq0.false (omega arith)
+        c.loop-owner.invariant.0,
+        next_room many c.loop-owner.owner-index c.args.left (length c.args.out.now) c.if-left-eq0.false (omega arith)
             (omega arith),
       )
 
@@ -59,8 +59,8 @@ returns-then-left-eq0 t c =
           ∙ whole_end z.owners z.lots z.left (share_in z.shares.now) z.order.now c.if-left-eq0.true),
     )
 
-pub loop-i-init : goal.loop-i-init
-loop-i-init t c = (omega arith, omega arith, refl)
+pub loop-owner-init : goal.loop-owner-init
+loop-owner-init t c = (omega arith, refl)
 
 pub offset_bounds-out-at : goal.offset_bounds-out-at
 offset_bounds-out-at t c =
@@ -94,21 +94,20 @@ overflow_add-at t c =
     let a = (goal.at.overflow_add-at t c).After-with_owner-next in
     omega (arith, long a, fits_more a, c.walk-n.ensures.0)
 
-pub loop-i-preserved : goal.loop-i-preserved
-loop-i-preserved t c =
-    let a = (goal.at.loop-i-preserved t c).After-with_owner-next in
+pub loop-owner-preserved : goal.loop-owner-preserved
+loop-owner-preserved t c =
+    let a = (goal.at.loop-owner-preserved t c).After-with_owner-next in
     let z = c.args in
-    let l = c.loop-i in
+    let l = c.loop-owner in
     let next = c.with_owner-next in
     let share = share_in z.shares.now in
     let pre = take (z.lots - (z.left - 1)) next.result in (
-      omega arith,
-      omega (arith, l.invariant.1, c.walk-n.ensures.0, next_count (many a) l.i z.left 0 c.if-left-eq0.false),
+      omega (arith, l.invariant.0, c.walk-n.ensures.0, next_count (many a) l.owner-index z.left 0 c.if-left-eq0.false),
       over_then (so_far a) (whole share z.order.now pre (z.left - 1)) z.out.now l.out _ l.at (here a)
-          (omega (arith, whole_length share z.order.now pre (z.left - 1), fits_more a)) l.invariant.2
+          (omega (arith, whole_length share z.order.now pre (z.left - 1), fits_more a)) l.invariant.1
           c.walk-n.ensures.1
           ∙ ap (λ l. over l z.out.now)
-          (sym (written_next share z.order.now (begun a) pre l.i (z.left - 1) (omega arith)
+          (sym (written_next share z.order.now (begun a) pre l.owner-index (z.left - 1) (omega arith)
           (begun_next z.owners z.lots z.left next.result _ next.ensures.0 c.if-left-eq0.false
           (omega arith) (omega arith)))),
     )
@@ -116,11 +115,11 @@ loop-i-preserved t c =
 pub returns : goal.returns
 returns t c =
     let z = c.args in
-    let l = c.loop-i in
+    let l = c.loop-owner in
     let many = length z.order.now in (
-      l.invariant.1 ∙ whole-count many l.i z.left 0 c.if-left-eq0.false (omega arith),
-      l.invariant.2
+      l.invariant.0 ∙ whole-count many l.owner-index z.left 0 c.if-left-eq0.false (omega arith),
+      l.invariant.1
           ∙ ap (λ l. over l z.out.now)
-          (written_all (share_in z.shares.now) z.order.now (take (z.lots - z.left) z.owners) l.i z.left
+          (written_all (share_in z.shares.now) z.order.now (take (z.lots - z.left) z.owners) l.owner-index z.left
           c.if-left-eq0.false (omega arith)),
     )
