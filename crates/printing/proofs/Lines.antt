@@ -19,9 +19,6 @@ module _ (ns o : List ℕ) (k : ℕ) (l : List ℕ) (e : l ≡ over (fields_of (
   so_far : length (fields_of (take k ns)) ≡ 6 * k
   so_far = fields_length (take k ns) ∙ ap (λ j. 6 * j) (length-take-le k ns h)
 
-  pub fields_long : 6 * k ≤ length o → length l ≡ length o
-  fields_long room = ap length e ∙ over_long (fields_of (take k ns)) o (omega (arith, so_far))
-
   -- the buffer from column 6 * k on comes back with a number
   pub fields_more : k < length ns → 6 * k + 6 ≤ length o → (at : ℕ) → at ≡ 6 * k → (last : List ℕ) →
       last ≡ over (columns 6 (get_or ns k 0)) (take (length l - at) (drop at l)) →
