@@ -5,4 +5,3 @@ pub mod Walks
 pub mod Loops
 pub mod Packed
 pub mod Bundles
-pub mod Made

@@ -114,3 +114,12 @@ pub fn list_lots(buyers: usize, lots: usize, out: &mut [u64]) -> usize
     let end = buyers + 1;
     walk(out, &order[..end], &shares, lots, [0; 4], lots)
 }
+
+// The list itself: the words, at the front of a table that is lent for them.
+pub fn listed(buyers: usize, lots: usize, table: &mut [u64]) -> &[u64]
+    requires { (buyers ≤ 6) × (lots ≤ 4) × (2401 ≤ length table.old) }
+    ensures { result.now ≡ lot_words buyers lots }
+{
+    let count = list_lots(buyers, lots, table);
+    &table[..count]
+}

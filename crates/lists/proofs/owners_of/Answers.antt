@@ -1,7 +1,7 @@
 -- `lists::owners_of` meets its contract.
 use Rattle.std.proofs.Common.{◌+◌, rules}
 use Rattle.lists.specs.Words.{digit, owners_of}
-use Rattle.lists.proofs.Made.{made_by}
+use Rattle.theory.proofs.Arrays.{made_by}
 use Rattle.lists.proofs.owners_of.Goals as goal
 
 pub returns : goal.returns
