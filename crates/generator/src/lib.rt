@@ -6,7 +6,7 @@ ghost use Rattle.generator.specs.Xorwow.{drawn, after};
 ghost use Rattle.generator.specs.Claims.{Draws};
 
 // The generator's state.
-#[derive(Drop)]
+#[derive(Clone, Copy)]
 pub struct Generator {
     pub x: u32,
     pub y: u32,
@@ -17,7 +17,7 @@ pub struct Generator {
 }
 
 // The number drawn, and the state after it.
-#[derive(Drop)]
+#[derive(Clone, Copy)]
 pub struct Drawn {
     pub value: u32,
     pub next: Generator,
@@ -29,8 +29,8 @@ pub fn draw(g: Generator) -> Drawn
 {
     let t = g.x ^ (g.x >> 2);
     let v = (g.v ^ (g.v << 4)) ^ (t ^ (t << 1));
-    let d = std::num::wrapping_add_u32(g.d, 362437);
-    let value = std::num::wrapping_add_u32(d, v);
+    let d = g.d.wrapping_add(362437);
+    let value = d.wrapping_add(v);
     let next = Generator {
         x: g.y,
         y: g.z,
@@ -54,11 +54,8 @@ pub fn after_draws(count: u32) -> Generator
         v: 5783321,
         d: 6615241,
     };
-    let mut k: u32 = 0;
-    while k < count {
-        let one = draw(g);
-        g = one.next;
-        k += 1;
+    for _ in 0..count {
+        g = draw(g).next;
     }
     g
 }

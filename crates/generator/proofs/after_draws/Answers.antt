@@ -1,7 +1,7 @@
-use Rattle.std.proofs.Common.{refl, arith}
+use Rattle.std.proofs.Common.{refl}
 use Rattle.generator.specs.Xorwow.{start}
 use Rattle.generator.proofs.after_draws.Goals as goal
 
-pub loop-k-init : goal.loop-k-init
+pub loop-init : goal.loop-init
 unfolding start
-loop-k-init c = (omega arith, refl)
+loop-init c = refl
