@@ -1,13 +1,13 @@
 -- The loop over a field's columns: what it knows after some of them (`SoFar`), with a blank and with a digit more, what
--- it answers, and the field by its answer for six columns (`field_running`).
-use mathlib.Core.Path.{◌≡◌, refl, ◌∙◌}
+-- it answers, and the field by its answer for six columns (`field_broken`, `field_whole`).
+use mathlib.Core.Path.{◌≡◌, refl, sym, ◌∙◌}
 use mathlib.Core.Bool.{Bool, true, false, ◌||◌, or-true}
 use mathlib.Core.List.{List}
 use Prim.Native.Nat.{ℕ, suc, ◌+◌, ◌-◌, ◌*◌, ◌^◌, ◌≤◌, ◌<◌}
 use native.Mathlib.Nat.{pow-suc}
 use native.Mathlib.Numerals.{add-one}
 use native.Mathlib.Omega.{arith}
-use lib.Dec.{ltb, lit<}
+use lib.Dec.{ltb}
 use lib.ListN.{length, take, drop, get_or}
 use lib.Seq.{take_all, get_or-take, get_or-drop}
 use Rattle.theory.specs.Sums.{pick}
@@ -15,8 +15,7 @@ use Rattle.theory.specs.Tests.{some}
 use Rattle.theory.specs.Lists.{up_to}
 use Rattle.theory.proofs.Tests.{by_test, some_means, itself}
 use Rattle.theory.proofs.Lists.{up_to_in}
-use Rattle.fields.specs.declared.Field.TheVariants.{Number, Faulty}
-use Rattle.fields.specs.declared.Running.{Running}
+use Rattle.std.specs.Prelude.{Option, Some, None, Ok, Err, is_some, unwrap_or, ok_or}
 use Rattle.fields.specs.Fields.{field_from, is_digit, digits_sum, breaks_rule, breaks, broken_by, running_at}
 use Rattle.fields.proofs.Scan.{digit_range, unbroken_digit, one_more, six_long, next}
 use Rattle.fields.proofs.Sums.{begun_more, broken_more, sum_more, field_sum}
@@ -27,9 +26,6 @@ pub record SoFar (l : List ℕ) (k : ℕ) (f : Bool) (v : ℕ) : Type 0 where
   pub begun : f ≡ some is_digit (take k l)
   pub value : v ≡ digits_sum (take k l)
   pub small : v < 10 ^ k
-
-pub so_far_none : (l : List ℕ) → SoFar l 0 false 0
-so_far_none l = record { unbroken = refl; begun = refl; value = refl; small = lit< tt }
 
 -- the loop at column k of the six from `at` on
 module _ (s : List ℕ) (at k : ℕ) (f : Bool) (v : ℕ) (room : at + 6 ≤ length s) (h : k < 6)
@@ -73,21 +69,37 @@ module _ (s : List ℕ) (at k : ℕ) (f : Bool) (v : ℕ) (room : at + 6 ≤ len
   pub digit_more : breaks_rule f (ltb (k + 1) 6) b ≡ false → (b ≡ 32 → ⊥) → SoFar six (k + 1) true (10 * v + (b - 48))
   digit_more e z = rw add-one (rw (unbroken_digit f (ltb (k + 1) 6) b e z, or-true) at (more e))
 
-  pub running_broken : (n : ℕ) → k < n → breaks_rule f (ltb (k + 1) 6) b ≡ true →
-      record { broken = true; begun = false; value = 0 } ≡ running_at n six
+  pub running_broken : (n : ℕ) → k < n → breaks_rule f (ltb (k + 1) 6) b ≡ true → Err at ≡ running_at at n six
   running_broken n g e =
       let any : broken_by n six ≡ true =
       (some_means (up_to n 0) (λ j _. itself (breaks six j))).1 (k, up_to_in n 0 (omega arith), breaks_here ∙ e) in
       rw any refl
 
-pub running_whole : (l : List ℕ) (n : ℕ) (f : Bool) (v : ℕ) → SoFar l n f v →
-    record { broken = false; begun = f; value = v } ≡ running_at n l
-running_whole l n f v x = rw (x.unbroken, x.begun, x.value) refl
+pub running_whole : (at : ℕ) (l : List ℕ) (n : ℕ) (o : Option ℕ) → SoFar l n (is_some o) (unwrap_or o 0) →
+    Ok o ≡ running_at at n l
+running_whole at l n None x = rw (x.unbroken, ← x.begun) refl
+running_whole at l n (Some v) x = rw (x.unbroken, ← x.begun, ← x.value) refl
 
 -- the field by what is known after six columns
-pub field_running : (at : ℕ) (l : List ℕ) (r : Running) → length l ≡ 6 → r ≡ running_at 6 l →
-    field_from at l ≡ pick r.broken (Faulty at) (pick r.begun (Number r.value) (Faulty at))
-field_running at l r six e =
-    let field = rw six at (field_sum at l) in
-    let all : take 6 l ≡ l = take_all 6 l (omega arith) in
-    by_test (broken_by 6 l) (λ t. (rw t at field) ∙ rw (e, t) refl) (λ t. (rw t at field) ∙ rw (e, t, all) refl)
+module _ (at : ℕ) (l : List ℕ) (six : length l ≡ 6) where
+  field_known : field_from at l ≡ pick (broken_by 6 l) (Err at) (pick (some is_digit l) (Ok (digits_sum l)) (Err at))
+  field_known = rw six at (field_sum at l)
+
+  all_six : take 6 l ≡ l
+  all_six = take_all 6 l (omega arith)
+
+  pub field_broken : (i : ℕ) → Err i ≡ running_at at 6 l → Err i ≡ field_from at l
+  field_broken i e =
+      by_test (broken_by 6 l)
+      (λ t. let h = rw t at e in let same : i ≡ at = cc in let known = rw t at field_known in rw same (sym known))
+      (λ t. let h = rw t at e in cc)
+
+  pub field_whole : (o : Option ℕ) → Ok o ≡ running_at at 6 l → ok_or o at ≡ field_from at l
+  field_whole o e =
+      by_test (broken_by 6 l)
+      (λ t. let h = rw t at e in cc)
+      (λ t.
+      let h = rw (t, all_six) at e in
+      let o_is : o ≡ pick (some is_digit l) (Some (digits_sum l)) None = cc in
+      rw o_is (by_test (some is_digit l) (λ d. rw d (sym (rw (t, d) at field_known)))
+      (λ d. rw d (sym (rw (t, d) at field_known)))))

@@ -8,7 +8,7 @@ use lib.ListN.{length, take, drop, get_or, length-drop, take-append-drop}
 use lib.Seq.{take_at, drop_at, drop-drop}
 use Rattle.theory.specs.Lists.{tabulate}
 use Rattle.theory.proofs.Lists.{tabulate-shift}
-use Rattle.fields.specs.declared.Field.TheVariants.{Number}
+use Rattle.std.specs.Prelude.{Ok}
 use Rattle.fields.specs.Fields.{field_at, columns, fields_of}
 use Rattle.fields.proofs.Canonical.{field_canonical}
 use Rattle.fields.proofs.Lines.{columns-length, fields_length}
@@ -23,7 +23,7 @@ field_in (v ∷ l) (suc k) h =
     ∙ ap (drop (6 * k)) (drop_at (columns 6 v) (fields_of l) 6 (columns-length 6 v)) ∙ field_in l k (omega arith)
 
 pub listed-read : (l : List ℕ) (k : ℕ) → k < length l → get_or l k 0 ≤ 999999 →
-    field_at (6 * k) (fields_of l) ≡ Number (get_or l k 0)
+    field_at (6 * k) (fields_of l) ≡ Ok (get_or l k 0)
 listed-read l k h small =
     (field_canonical (fields_of l) (6 * k) (get_or l k 0)).1 (
       omega (arith, fields_length l),

@@ -1,7 +1,7 @@
 -- Reading a field column by column. Where a reading stands is a flag, whether a digit was seen, and the number so far
 -- (`scan`). Offers the classes of bytes, which of them break rule 2.2 (`rule_blank`, ..), what each does to a reading
 -- (`column_goes`, `column_faults`), and the bound of a number with so many digits.
-use mathlib.Core.Path.{◌≡◌, refl, sym, ap, subst, ◌∙◌}
+use mathlib.Core.Path.{◌≡◌, refl, ap, subst, ◌∙◌}
 use mathlib.Core.Bool.{Bool, true, false, not, ◌&&◌, ◌||◌, or-true}
 use mathlib.Core.List.{List, [], ◌∷◌}
 use Prim.Native.Nat.{ℕ, zero, suc, ◌+◌, ◌-◌, ◌*◌, ◌^◌, ◌≤◌, ◌<◌}
@@ -10,13 +10,11 @@ use native.Mathlib.Omega.{arith}
 use native.Mathlib.Decide.{ℕ_discrete, dec_le}
 use lib.Dec.{ltb, lit<}
 use lib.ListN.{length, take, drop, length-take, length-drop}
-use borrow.Author.Tests.{le-leb, lt-leb, ne_eqb, le-ltb, lt-ltb}
+use borrow.Author.Tests.{le-leb, lt-leb, ne_eqb, lt-ltb}
 use Rattle.theory.specs.Sums.{pick}
 use Rattle.theory.proofs.Tests.{by_test, fails}
-use Rattle.fields.specs.declared.Field.{Field}
-use Rattle.fields.specs.declared.FieldRead.{FieldRead}
-use Rattle.fields.specs.declared.Field.TheVariants.{Number, Faulty}
-use Rattle.fields.specs.Fields.{class_of, digits_from, field_from, field_at, field_read, is_digit, breaks_rule}
+use Rattle.std.specs.Prelude.{Result, Ok, Err}
+use Rattle.fields.specs.Fields.{class_of, digits_from, field_from, is_digit, breaks_rule}
 use Rattle.fields.specs.Fields.Class.{Digit, Foreign}
 
 -- classes of bytes
@@ -86,7 +84,7 @@ unbroken_digit f a b =
     (λ c e n. fails (rw c) e)
 
 -- where a reading stands: whether there was a digit, and the number so far
-abbrev pub scan : Bool → ℕ → ℕ → List ℕ → Field
+abbrev pub scan : Bool → ℕ → ℕ → List ℕ → Result ℕ ℕ
 scan true at v l = digits_from at v l
 scan false at v l = field_from at l
 
@@ -108,13 +106,13 @@ digit-first at d bs l h =
 digit_goes : (f : Bool) (at v d : ℕ) (bs : List ℕ) → v ≡ pick f v 0 → d < 10 →
     breaks_rule f (ltb 0 (length bs)) (48 + d) ≡ false → scan f at v ((48 + d) ∷ bs) ≡ digits_from at (10 * v + d) bs
 digit_goes true at v d bs w h e = digit_late at v d bs h
-digit_goes false at v zero [] w h e = ap Number (omega arith)
+digit_goes false at v zero [] w h e = ap Ok (omega arith)
 digit_goes false at v zero (c ∷ cs) w h e = fails (lt-ltb 0 (suc (length cs)) (omega arith)) e
 digit_goes false at v (suc d) bs w h e =
     digit-first at (suc d) bs (omega arith) h ∙ ap (λ n. digits_from at n bs) (omega arith)
 
 digit_faults : (f : Bool) (at v d : ℕ) (bs : List ℕ) → d < 10 →
-    breaks_rule f (ltb 0 (length bs)) (48 + d) ≡ true → scan f at v ((48 + d) ∷ bs) ≡ Faulty at
+    breaks_rule f (ltb 0 (length bs)) (48 + d) ≡ true → scan f at v ((48 + d) ∷ bs) ≡ Err at
 digit_faults true at v zero bs h e = fails e refl
 digit_faults false at v zero [] h e = fails e refl
 digit_faults false at v zero (c ∷ cs) h e = refl
@@ -133,9 +131,9 @@ column_goes f at v b bs w =
     (λ c e. fails (rw c) e)
 
 pub column_faults : (f : Bool) (at v b : ℕ) (bs : List ℕ) → breaks_rule f (ltb 0 (length bs)) b ≡ true →
-    scan f at v (b ∷ bs) ≡ Faulty at
+    scan f at v (b ∷ bs) ≡ Err at
 column_faults f at v b bs =
-    by_class (λ b. breaks_rule f (ltb 0 (length bs)) b ≡ true → scan f at v (b ∷ bs) ≡ Faulty at) b
+    by_class (λ b. breaks_rule f (ltb 0 (length bs)) b ≡ true → scan f at v (b ∷ bs) ≡ Err at) b
     (λ e. rw e)
     (λ d h e. digit_faults f at v d bs h e)
     (λ c e. by_test f (λ t. rw (t, digits_from, c)) (λ t. rw (t, field_from, c)))
@@ -150,17 +148,3 @@ few_digits n m v h g = omega (arith, pow-le-pow_right {n = 10} (lit< tt) h)
 -- the six columns of a field
 pub six_long : (s : List ℕ) (at : ℕ) → at + 6 ≤ length s → length (take 6 (drop at s)) ≡ 6
 six_long s at h = simp (length-take, length-drop) (omega arith)
-
--- what reading a field answers where six bytes are left, and where fewer are
-pub six_left : (s : List ℕ) (at : ℕ) (f : Field) → at + 6 ≤ length s → f ≡ field_from at (take 6 (drop at s)) →
-    record { next = at + 6; field = f } ≡ field_read s at
-six_left s at f h e = rw (le-ltb (length s) (at + 6) h, e) refl
-
-pub fewer_left : (s : List ℕ) (at : ℕ) → length s < at + 6 →
-    record { next = length s; field = Faulty at } ≡ field_read s at
-fewer_left s at h = rw (lt-ltb (length s) (at + 6) h) refl
-
--- the field that was read
-pub field_read_lem : (b : List ℕ) (at : ℕ) (r : FieldRead) (f : Field) → r ≡ field_read b at → r.field ≡ f →
-    field_at at b ≡ f
-field_read_lem b at r f e g = sym (ap (λ (x : FieldRead). x.field) e) ∙ g

@@ -16,8 +16,7 @@ use Rattle.theory.specs.Tests.{some}
 use Rattle.theory.specs.Lists.{keep, up_to}
 use Rattle.theory.proofs.Tests.{by_test, same_test, fails, some-last}
 use Rattle.theory.proofs.Lists.{kept_last, tabulate-last}
-use Rattle.fields.specs.declared.Field.{Field}
-use Rattle.fields.specs.declared.Field.TheVariants.{Number, Faulty}
+use Rattle.std.specs.Prelude.{Result, Ok, Err}
 use Rattle.fields.specs.Fields.{field_from, field_at, number_of, is_digit, digits_sum, breaks, broken_by}
 use Rattle.fields.specs.Claims.{Fields, values_after, broken_after}
 use Rattle.fields.proofs.Scan.{digit_is, six_long, scan, next, column_goes, column_faults}
@@ -96,7 +95,7 @@ sum_begun l = by_test (some is_digit l) (λ e. rw e) (λ e. rw e (running_none l
 
 -- the columns that are left give the field, or one before them has broken the rule
 module _ (at : ℕ) (l : List ℕ) where
-  abbrev left : ℕ → Field
+  abbrev left : ℕ → Result ℕ ℕ
   left k = scan (some is_digit (take k l)) at (digits_sum (take k l)) (drop k l)
 
   left_more : (k : ℕ) → k < length l → breaks l k ≡ false → left (suc k) ≡ left k
@@ -105,13 +104,13 @@ module _ (at : ℕ) (l : List ℕ) where
       (sym (column_goes (some is_digit (take k l)) at (digits_sum (take k l)) (get_or l k 0) (drop (suc k) l)
       (sum_begun (take k l)) (rw (after_means l k h) at e)))
 
-  left_faults : (k : ℕ) → k < length l → breaks l k ≡ true → left k ≡ Faulty at
+  left_faults : (k : ℕ) → k < length l → breaks l k ≡ true → left k ≡ Err at
   left_faults k h e =
       rw (drop-cons l k 0 h)
       (column_faults (some is_digit (take k l)) at (digits_sum (take k l)) (get_or l k 0) (drop (suc k) l)
       (rw (after_means l k h) at e))
 
-  left_field : (k : ℕ) → k ≤ length l → field_from at l ≡ pick (broken_by k l) (Faulty at) (left k)
+  left_field : (k : ℕ) → k ≤ length l → field_from at l ≡ pick (broken_by k l) (Err at) (left k)
   left_field zero h = refl
   left_field (suc k) h =
       let before = left_field k (omega arith) in
@@ -125,14 +124,14 @@ module _ (at : ℕ) (l : List ℕ) where
 
 pub field_sum : (at : ℕ) (l : List ℕ) →
     field_from at l
-    ≡ pick (broken_by (length l) l) (Faulty at) (pick (some is_digit l) (Number (digits_sum l)) (Faulty at))
+    ≡ pick (broken_by (length l) l) (Err at) (pick (some is_digit l) (Ok (digits_sum l)) (Err at))
 field_sum at l =
     let whole = rw (take-length, drop-length) at (left_field at l (length l) (omega arith)) in
-    whole ∙ ap (pick (broken_by (length l) l) (Faulty at)) (by_test (some is_digit l) (λ e. rw e) (λ e. rw e))
+    whole ∙ ap (pick (broken_by (length l) l) (Err at)) (by_test (some is_digit l) (λ e. rw e) (λ e. rw e))
 
 -- the columns have the number v
 number_means : (at v : ℕ) (l : List ℕ) →
-    (field_from at l ≡ Number v) ↔ ((broken_by (length l) l ≡ false) × (some is_digit l ≡ true) × (v ≡ digits_sum l))
+    (field_from at l ≡ Ok v) ↔ ((broken_by (length l) l ≡ false) × (some is_digit l ≡ true) × (v ≡ digits_sum l))
 number_means at v l = (
   λ e. by_test (broken_by (length l) l) (λ t. no_number (sym (rw t at (field_sum at l)) ∙ e)) (λ t.
       by_test (some is_digit l)
@@ -142,7 +141,7 @@ number_means at v l = (
 )
 
 field_by_sum : (b : List ℕ) (at v : ℕ) →
-    (field_at at b ≡ Number v) ↔ ((at + 6 ≤ length b)
+    (field_at at b ≡ Ok v) ↔ ((at + 6 ≤ length b)
     × (broken_by 6 (take 6 (drop at b)) ≡ false)
     × (some is_digit (take 6 (drop at b)) ≡ true)
     × (v ≡ digits_sum (take 6 (drop at b))))

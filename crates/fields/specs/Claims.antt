@@ -2,17 +2,16 @@
 -- does, and is the field's number. Examples by `values_after` and `broken_after`, which have the answers for 1 to 6
 -- columns.
 use Rattle.std.specs.Prelude.{◌≡◌, ◌↔◌, Bool, true, false, List, [], ◌∷◌, ◌++◌, ℕ, ◌+◌, ◌*◌, ◌≤◌, ◌<◌, length, take}
-use Rattle.std.specs.Prelude.{drop}
+use Rattle.std.specs.Prelude.{drop, Ok, is_err}
 use Rattle.theory.specs.Tests.{some}
 use Rattle.theory.specs.Lists.{tabulate}
-use Rattle.fields.specs.declared.Field.TheVariants.{Number}
-use Rattle.fields.specs.Fields.{field_at, is_digit, digits_sum, broken_by, running_at}
+use Rattle.fields.specs.Fields.{field_at, is_digit, digits_sum, broken_by, running_at, running_value}
 
 abbrev pub values_after : List ℕ → List ℕ
-values_after l = tabulate 6 1 (λ k. (running_at k l).value)
+values_after l = tabulate 6 1 (λ k. running_value (running_at 0 k l))
 
 abbrev pub broken_after : List ℕ → List Bool
-broken_after l = tabulate 6 1 (λ k. (running_at k l).broken)
+broken_after l = tabulate 6 1 (λ k. is_err (running_at 0 k l))
 
 pub record Fields : Type 0 where
   -- the sum is 0 while there is no digit; a digit more makes it ten times itself plus that digit; a blank leaves it
@@ -21,7 +20,7 @@ pub record Fields : Type 0 where
   pub running_blank : (l : List ℕ) → digits_sum (l ++ (32 ∷ [])) ≡ digits_sum l
   -- when a field has the number v
   pub field_by_sum : (b : List ℕ) (at v : ℕ) →
-      (field_at at b ≡ Number v) ↔ ((at + 6 ≤ length b)
+      (field_at at b ≡ Ok v) ↔ ((at + 6 ≤ length b)
       × (broken_by 6 (take 6 (drop at b)) ≡ false)
       × (some is_digit (take 6 (drop at b)) ≡ true)
       × (v ≡ digits_sum (take 6 (drop at b))))

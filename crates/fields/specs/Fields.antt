@@ -2,14 +2,12 @@
 -- field at a column (`field_at`), what reading one field answers (`field_read`), what is known after some of its
 -- columns (`running_at`), and the columns in which a number is written (`columns`).
 use Rattle.std.specs.Prelude.{Bool, true, false, not, ◌&&◌, List, [], ◌∷◌, ◌++◌, ℕ, zero, suc, ◌+◌, ◌-◌, ◌*◌, ◌/◌, ◌%◌}
-use Rattle.std.specs.Prelude.{◌^◌, eqb, ltb, leb, length, take, drop, get_or}
+use Rattle.std.specs.Prelude.{◌^◌, eqb, ltb, leb, length, take, drop, get_or, Option, Some, None}
+use Rattle.std.specs.Prelude.{Result, Ok, Err, unwrap_or}
 use Rattle.theory.specs.Sums.{pick, when}
 use Rattle.theory.specs.Tests.{some}
 use Rattle.theory.specs.Lists.{keep, up_to}
-use Rattle.fields.specs.declared.Field.{Field}
-use Rattle.fields.specs.declared.Field.TheVariants.{Number, Faulty}
 use Rattle.fields.specs.declared.FieldRead.{FieldRead}
-use Rattle.fields.specs.declared.Running.{Running}
 
 -- rule 2.3: the classes of bytes
 pub data Class : Type 0 where
@@ -26,26 +24,26 @@ on_class Digit a b c d = c
 on_class Foreign a b c d = d
 
 -- rule 2.2, column by column. The columns after a digit, with the number so far
-abbrev pub digits_from : ℕ → ℕ → List ℕ → Field
-digits_from at v [] = Number v
+abbrev pub digits_from : ℕ → ℕ → List ℕ → Result ℕ ℕ
+digits_from at v [] = Ok v
 digits_from at v (b ∷ bs) =
-    let r = digits_from at (10 * v + (b - 48)) bs in on_class (class_of b) (Faulty at) r r (Faulty at)
+    let r = digits_from at (10 * v + (b - 48)) bs in on_class (class_of b) (Err at) r r (Err at)
 
 -- a zero that comes first is the last column
-abbrev pub zero_from : ℕ → List ℕ → Field
-zero_from at [] = Number 0
-zero_from at (b ∷ bs) = Faulty at
+abbrev pub zero_from : ℕ → List ℕ → Result ℕ ℕ
+zero_from at [] = Ok 0
+zero_from at (b ∷ bs) = Err at
 
 -- the columns from the first one, or after blanks
-abbrev pub field_from : ℕ → List ℕ → Field
-field_from at [] = Faulty at
+abbrev pub field_from : ℕ → List ℕ → Result ℕ ℕ
+field_from at [] = Err at
 field_from at (b ∷ bs) =
     let r = field_from at bs in let d = digits_from at (b - 48) bs in
-    on_class (class_of b) r (zero_from at bs) d (Faulty at)
+    on_class (class_of b) r (zero_from at bs) d (Err at)
 
 -- the field at a column (rules 2.4 and 2.5): a fault with fewer than six bytes left, and known by the column asked
-abbrev pub field_at : ℕ → List ℕ → Field
-field_at at s = let f = field_from at (take 6 (drop at s)) in pick (ltb (length s) (at + 6)) (Faulty at) f
+abbrev pub field_at : ℕ → List ℕ → Result ℕ ℕ
+field_at at s = let f = field_from at (take 6 (drop at s)) in pick (ltb (length s) (at + 6)) (Err at) f
 
 -- rule 2.5: six further on, or the end of the sheet
 abbrev pub next_column : ℕ → List ℕ → ℕ
@@ -55,14 +53,14 @@ next_column at s = pick (ltb (length s) (at + 6)) (length s) (at + 6)
 abbrev pub field_read : List ℕ → ℕ → FieldRead
 field_read s at = record { next = next_column at s; field = field_at at s }
 
-abbrev pub good : Field → Bool
-good (Number v) = true
-good (Faulty at) = false
+abbrev pub good : Result ℕ ℕ → Bool
+good (Ok v) = true
+good (Err at) = false
 
 -- the number, 0 for a fault
-abbrev pub number_of : Field → ℕ
-number_of (Number v) = v
-number_of (Faulty at) = 0
+abbrev pub number_of : Result ℕ ℕ → ℕ
+number_of (Ok v) = v
+number_of (Err at) = 0
 
 abbrev pub number_at : ℕ → List ℕ → ℕ
 number_at at b = number_of (field_at at b)
@@ -89,12 +87,17 @@ breaks l j = breaks_rule (some is_digit (take j l)) (ltb (suc j) (length l)) (ge
 abbrev pub broken_by : ℕ → List ℕ → Bool
 broken_by k l = some (breaks l) (up_to k 0)
 
--- what is known after the first k columns: that one is broken, or whether there is a digit, and the sum
-abbrev pub running_at : ℕ → List ℕ → Running
-running_at k l =
-    let broken : Running = record { broken = true; begun = false; value = 0 } in
-    let whole : Running = record { broken = false; begun = some is_digit (take k l); value = digits_sum (take k l) } in
-    pick (broken_by k l) broken whole
+-- what is known after the first k columns of the field at a column: its offset if one is broken, or the sum if there is
+-- a digit
+abbrev pub running_at : ℕ → ℕ → List ℕ → Result (Option ℕ) ℕ
+running_at at k l =
+    let number : Option ℕ = pick (some is_digit (take k l)) (Some (digits_sum (take k l))) None in
+    pick (broken_by k l) (Err at) (Ok number)
+
+-- the number so far, 0 if a column is broken or there is no digit
+abbrev pub running_value : Result (Option ℕ) ℕ → ℕ
+running_value (Ok number) = unwrap_or number 0
+running_value (Err at) = 0
 
 -- the k digits of a number below 10 ^ k, and the number in k columns: a blank for each digit that it lacks, but for the
 -- last

@@ -3,90 +3,48 @@
 
 ghost use Rattle.std.specs.Prelude.{◌≡◌, ◌+◌, ◌≤◌, length, take, drop, get_or};
 ghost use Rattle.fields.specs.Claims.{Fields};
-ghost use Rattle.fields.specs.Fields.{field_from, field_at, field_read, good, number_at, running_at};
+ghost use Rattle.fields.specs.Fields.{field_from, field_at, field_read, good, number_at, running_at, running_value};
 
-// A field's number, or the faulty offset: that of the field's first byte.
-#[derive(Drop)]
-pub enum Field {
-    Number(u32),
-    Faulty(usize),
-}
-
-// What the reader of a field answers (rule 2.4).
+// What the reader of a field answers (rule 2.4): the next column, and the field's number or the faulty offset, that of
+// the field's first byte.
 #[derive(Drop)]
 pub struct FieldRead {
     pub next: usize,
-    pub field: Field,
+    pub field: Result<u32, usize>,
 }
 
-// A digit as a wider number.
-fn wide(b: u8) -> u32
-    ensures { result ≡ b }
-{
-    b as u32
-}
-
-// What is known after the first columns of a field: whether one of them breaks rule 2.2; if none does, whether there is
-// a digit among them, and the number so far.
-#[derive(Drop)]
-struct Running {
-    broken: bool,
-    begun: bool,
-    value: u32,
-}
-
-// The first `count` of a field's six columns, with a running value: 0 at first, and at each digit ten times itself plus
-// the digit.
-fn read_columns(sheet: &[u8], at: usize, count: usize) -> Running
+// The first `count` of a field's six columns: the faulty offset if one of them breaks rule 2.2; else the number so far, if
+// there is a digit among them: at each digit it becomes ten times itself plus the digit.
+fn read_columns(sheet: &[u8], at: usize, count: usize) -> Result<Option<u32>, usize>
     requires { (at + 6 ≤ length sheet.now) × (count ≤ 6) }
-    ensures { (result ≡ running_at count (take 6 (drop at sheet.now))) × (result.value ≤ 999999) }
+    ensures { (result ≡ running_at at count (take 6 (drop at sheet.now))) × (running_value result ≤ 999999) }
 {
-    let mut begun = false;
-    let mut value: u32 = 0;
-    let mut k = 0;
-    while k < count {
+    let mut number: Option<u32> = None;
+    for k in 0..count {
         let b = sheet[at + k];
         let breaks = match b {
-            32 => begun,
-            48 => !begun && k + 1 < 6,
-            49..=57 => false,
+            b' ' => number.is_some(),
+            b'0' => number.is_none() && k + 1 < 6,
+            b'1'..=b'9' => false,
             _ => true,
         };
         if breaks {
-            return Running {
-                broken: true,
-                begun: false,
-                value: 0,
-            };
+            return Err(at);
         }
-        if b != 32 {
-            let digit = wide(b - 48);
-            begun = true;
-            value = 10 * value + digit;
+        if b != b' ' {
+            let digit = u32::from(b - 48);
+            number = Some(10 * number.unwrap_or(0) + digit);
         }
-        k += 1;
     }
-    Running {
-        broken: false,
-        begun: begun,
-        value: value,
-    }
+    Ok(number)
 }
 
 // The six columns of a field.
-fn scan_columns(sheet: &[u8], at: usize) -> Field
+fn scan_columns(sheet: &[u8], at: usize) -> Result<u32, usize>
     requires { at + 6 ≤ length sheet.now }
     ensures { result ≡ field_from at (take 6 (drop at sheet.now)) }
 {
-    let r = read_columns(sheet, at, 6);
-    if r.broken {
-        return Field::Faulty(at);
-    }
-    if r.begun {
-        Field::Number(r.value)
-    } else {
-        Field::Faulty(at)
-    }
+    read_columns(sheet, at, 6)?.ok_or(at)
 }
 
 // Reads one field (rules 2.4 and 2.5). Any column may be asked.
@@ -94,17 +52,16 @@ pub fn read_field(sheet: &[u8], at: usize) -> FieldRead
     ensures { result ≡ field_read sheet.now at }
 {
     let len = sheet.len();
-    if 6 <= len {
-        if at <= len - 6 {
-            return FieldRead {
-                next: at + 6,
-                field: scan_columns(sheet, at),
-            };
+    if 6 <= len && at <= len - 6 {
+        FieldRead {
+            next: at + 6,
+            field: scan_columns(sheet, at),
         }
-    }
-    FieldRead {
-        next: len,
-        field: Field::Faulty(at),
+    } else {
+        FieldRead {
+            next: len,
+            field: Err(at),
+        }
     }
 }
 
@@ -112,31 +69,21 @@ pub fn read_field(sheet: &[u8], at: usize) -> FieldRead
 pub fn field_number(sheet: &[u8], at: usize) -> u32
     ensures { result ≡ number_at at sheet.now }
 {
-    let r = read_field(sheet, at);
-    let f = r.field;
-    match f {
-        Field::Number(n) => n,
-        Field::Faulty(_) => 0,
-    }
+    read_field(sheet, at).field.unwrap_or(0)
 }
 
 // Whether a field is a number.
 pub fn field_good(sheet: &[u8], at: usize) -> bool
     ensures { result ≡ good (field_at at sheet.now) }
 {
-    let r = read_field(sheet, at);
-    let f = r.field;
-    match f {
-        Field::Number(_) => true,
-        Field::Faulty(_) => false,
-    }
+    read_field(sheet, at).field.is_ok()
 }
 
 // The byte at an offset; 0 past the end.
 pub fn byte_at(sheet: &[u8], at: usize) -> u8
     ensures { result ≡ get_or sheet.now at 0 }
 {
-    if at < sheet.len() { sheet[at] } else { 0 }
+    sheet.get(at).copied().unwrap_or(0)
 }
 
 // Does nothing. Its contract has what is claimed of fields, so that none of it can be dropped unseen.

@@ -10,7 +10,7 @@ use native.Mathlib.Omega.{arith}
 use native.Mathlib.Decide.{dec_lt}
 use lib.ListN.{length, take, drop, get_or, length-append}
 use Rattle.theory.proofs.Loops.{filled_all}
-use Rattle.fields.specs.declared.Field.TheVariants.{Number}
+use Rattle.std.specs.Prelude.{Ok}
 use Rattle.fields.specs.Fields.{field_at, columns, number_of}
 use Rattle.fields.proofs.Canonical.{field_canonical}
 use Rattle.sheet.specs.Sheets.{line_length, offset, Sheet, as_sheet, sheet_of, worth, worth_in, worth_place, worths_in}
@@ -34,16 +34,16 @@ module _ (b : List ℕ) (w : Sheet) (buyers : (1 ≤ w.buyers) × (w.buyers ≤ 
   n = w.lots
 
   field_read_lem : (at v : ℕ) → at + 6 ≤ length b → v ≤ 999999 → take 6 (drop at b) ≡ columns 6 v →
-      field_at at b ≡ Number v
+      field_at at b ≡ Ok v
   field_read_lem at v room small e = (field_canonical b at v).1 (room, small, e)
 
-  buyers_read : field_at 0 b ≡ Number m
+  buyers_read : field_at 0 b ≡ Ok m
   buyers_read = field_read_lem 0 m (omega (arith, written.long)) (omega (arith, buyers)) written.buyers
 
-  lots_read : field_at 6 b ≡ Number n
+  lots_read : field_at 6 b ≡ Ok n
   lots_read = field_read_lem 6 n (omega (arith, written.long)) (omega (arith, lots)) written.lots
 
-  worth-read : (i c : ℕ) → i < m → suc c < 2 ^ n → field_at (offset n i c) b ≡ Number (worth w i (suc c))
+  worth-read : (i c : ℕ) → i < m → suc c < 2 ^ n → field_at (offset n i c) b ≡ Ok (worth w i (suc c))
   worth-read i c h g =
       field_read_lem (offset n i c) (worth w i (suc c))
       (omega (arith, written.long, suc-mul i (line_length n), mul-le-mul_right {m = suc i} {n = m} (line_length n) h))

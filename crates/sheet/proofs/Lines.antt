@@ -13,8 +13,7 @@ use lib.ListN.{length, take, drop, get_or}
 use borrow.Author.Tests.{ltb-true, ltb-false, lt-ltb, leb-false, not-true}
 use Rattle.theory.proofs.Tests.{by_test, fails, Means, means_via, itself, and_means, imp_means, not_means, eqb_means}
 use Rattle.theory.proofs.Tests.{leb_means, imp_fails, every_means, every_fails, least_none, least_found}
-use Rattle.fields.specs.declared.Field.{Field}
-use Rattle.fields.specs.declared.Field.TheVariants.{Number, Faulty}
+use Rattle.std.specs.Prelude.{Result, Ok, Err}
 use Rattle.fields.specs.Fields.{Class, class_of, on_class, digits_from, zero_from, field_from, field_at, good}
 use Rattle.fields.specs.Fields.Class.{Blank, Zero, Digit, Foreign}
 use Rattle.sheet.specs.Sheets.{line_length, offset, Sheet, worth}
@@ -90,10 +89,10 @@ module _ (q : ℕ) (b : List ℕ) (w : Sheet) where
           let f = (first_place k e).found in fails f.is_wrong (h f.line f.place f.below.0 f.below.1)
 
 -- a field is a number, or faulty, and then known by the column asked
-abbrev Told : ℕ → Field → Type 0
-Told at f = ((v : ℕ) × (f ≡ Number v)) ⊎ (f ≡ Faulty at)
+abbrev Told : ℕ → Result ℕ ℕ → Type 0
+Told at f = ((v : ℕ) × (f ≡ Ok v)) ⊎ (f ≡ Err at)
 
-class_told : (at : ℕ) (c : Class) (x y z u : Field) → Told at x → Told at y → Told at z → Told at u →
+class_told : (at : ℕ) (c : Class) (x y z u : Result ℕ ℕ) → Told at x → Told at y → Told at z → Told at u →
     Told at (on_class c x y z u)
 class_told at Blank x y z u a b c d = a
 class_told at Zero x y z u a b c d = b
@@ -104,8 +103,8 @@ digits-told : (at v : ℕ) (l : List ℕ) → Told at (digits_from at v l)
 digits-told at v [] = inl (v, refl)
 digits-told at v (b ∷ l) =
     let r = digits-told at (10 * v + (b - 48)) l in
-    class_told at (class_of b) (Faulty at) (digits_from at (10 * v + (b - 48)) l) (digits_from at (10 * v + (b - 48)) l)
-    (Faulty at) (inr refl) r r (inr refl)
+    class_told at (class_of b) (Err at) (digits_from at (10 * v + (b - 48)) l) (digits_from at (10 * v + (b - 48)) l)
+    (Err at) (inr refl) r r (inr refl)
 
 zero_told : (at : ℕ) (l : List ℕ) → Told at (zero_from at l)
 zero_told at [] = inl (0, refl)
@@ -114,10 +113,10 @@ zero_told at (b ∷ l) = inr refl
 columns-told : (at : ℕ) (l : List ℕ) → Told at (field_from at l)
 columns-told at [] = inr refl
 columns-told at (b ∷ l) =
-    class_told at (class_of b) (field_from at l) (zero_from at l) (digits_from at (b - 48) l) (Faulty at)
+    class_told at (class_of b) (field_from at l) (zero_from at l) (digits_from at (b - 48) l) (Err at)
     (columns-told at l) (zero_told at l) (digits-told at (b - 48) l) (inr refl)
 
-pub field_told : (b : List ℕ) (at : ℕ) → ((v : ℕ) × (field_at at b ≡ Number v)) ⊎ (field_at at b ≡ Faulty at)
+pub field_told : (b : List ℕ) (at : ℕ) → ((v : ℕ) × (field_at at b ≡ Ok v)) ⊎ (field_at at b ≡ Err at)
 field_told b at =
     by_test (ltb (length b) (at + 6)) (λ e. rw e (inr refl)) (λ e. rw e (columns-told at (take 6 (drop at b))))
 
@@ -127,7 +126,7 @@ good_means b at = (
   λ h. ap good h.1,
 )
 
-pub bad_means : (b : List ℕ) (at : ℕ) → Means (not (good (field_at at b))) (field_at at b ≡ Faulty at)
+pub bad_means : (b : List ℕ) (at : ℕ) → Means (not (good (field_at at b))) (field_at at b ≡ Err at)
 bad_means b at = (
   λ e. elim (field_told b at) [ inl h ↦ fails (ap good h.1) (not-true (good (field_at at b)) e) | inr h ↦ h ],
   λ h. ap (λ f. not (good f)) h,

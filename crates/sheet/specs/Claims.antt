@@ -2,8 +2,7 @@
 -- wrong at an offset with 6, 7 and 8 (`WrongAt`, `LeastPlace`); what is known of an accepted sheet (`Shape`, `Grows`);
 -- and all that is claimed of sheets (`Sheets`).
 use Rattle.std.specs.Prelude.{◌≡◌, ◌≢◌, ◌⊎◌, ◌↔◌, true, List, [], ◌∷◌, ◌++◌, ℕ, suc, ◌+◌, ◌-◌, ◌*◌, ◌^◌, ◌≤◌, ◌<◌}
-use Rattle.std.specs.Prelude.{length, take, drop, get_or}
-use Rattle.fields.specs.declared.Field.TheVariants.{Number, Faulty}
+use Rattle.std.specs.Prelude.{length, take, drop, get_or, Ok, Err}
 use Rattle.fields.specs.Fields.{field_at, columns}
 use Rattle.numbers.specs.Numbers.{bit}
 use Rattle.sheet.specs.Sheets.{Sheet, sheet_of, worth, bytes_of}
@@ -14,7 +13,7 @@ abbrev pub start_of : ℕ → ℕ → ℕ → ℕ
 start_of n i c = 13 + (i * (6 * (2 ^ n - 1) + 1) + 6 * c)
 
 abbrev pub GoodField : List ℕ → ℕ → Type 0
-GoodField b at = (v : ℕ) × (field_at at b ≡ Number v)
+GoodField b at = (v : ℕ) × (field_at at b ≡ Ok v)
 
 -- rules 3.1 to 3.8: question k stands at place k of the list; there is no question 0
 abbrev pub questions : List ℕ → Sheet → List (Type 0)
@@ -39,7 +38,7 @@ Question b k = get_or (questions b (sheet_of b)) k (Unit {0})
 module _ (w : Sheet) (i c : ℕ) where
   abbrev pub Malformed : List ℕ → Type 0
   Malformed b =
-      ((suc c < 2 ^ w.lots) × (field_at (start_of w.lots i c) b ≡ Faulty (start_of w.lots i c)))
+      ((suc c < 2 ^ w.lots) × (field_at (start_of w.lots i c) b ≡ Err (start_of w.lots i c)))
       ⊎ ((suc c ≡ 2 ^ w.lots) × (get_or b (start_of w.lots i c) 0 ≢ 10))
 
   abbrev pub TooLarge : Type 0
@@ -89,7 +88,7 @@ Grows w =
 pub record Sheets : Type 0 where
   -- a field has the number v exactly if its six bytes are those in which v is written
   pub field_canonical : (b : List ℕ) (at v : ℕ) →
-      (field_at at b ≡ Number v) ↔ ((at + 6 ≤ length b) × (v ≤ 999999) × (take 6 (drop at b) ≡ columns 6 v))
+      (field_at at b ≡ Ok v) ↔ ((at + 6 ≤ length b) × (v ≤ 999999) × (take 6 (drop at b) ≡ columns 6 v))
   -- the number is that of the first question that gets a "no"
   pub first_no : (b : List ℕ) (k : ℕ) → 1 ≤ k →
       ((sheet_fault b).number ≡ k) ↔ (((j : ℕ) → j < k → Question b j) × (Question b k → ⊥))

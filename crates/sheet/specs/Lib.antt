@@ -2,5 +2,6 @@
 pub mod Sheets
 pub mod Tables
 pub mod Questions
+pub mod Refusals
 pub mod Claims
 pub mod Answers

@@ -1,13 +1,43 @@
 // What is read of a lot sheet. The meaning is in specs/, the theorems in proofs/; `lines` and `reading` have the code.
 #![tactic(auto)]
 
+ghost use Rattle.std.specs.Prelude.{◌≡◌};
+ghost use Rattle.sheet.specs.Answers.{refused_read, refused_worths};
 ghost use Rattle.sheet.specs.Claims.{Sheets};
+ghost use Rattle.sheet.specs.Refusals.{fault_of};
+
+mod size;
+
+pub use size::Size;
 
 // A refusal's number and place; 0 and 0 for none.
 #[derive(Drop)]
 pub struct Fault {
     pub number: u8,
     pub place: u32,
+}
+
+// Why something is refused: the first question that gets a "no", 1 to 11 in this order, with the place of what is wrong.
+#[derive(Clone, Copy, Debug, PartialEq, Eq)]
+pub enum Refusal {
+    Short,
+    Head,
+    Buyers,
+    Lots,
+    Length,
+    Malformed(u32),
+    TooLarge(u32),
+    Falls(u32),
+    Record,
+    Buyer,
+    Room,
+}
+
+// An accepted sheet, with its worths sixteen to a buyer.
+#[derive(Drop)]
+pub struct LotSheet {
+    pub size: Size,
+    pub worths: [u16; 96],
 }
 
 // A refusal, or an accepted sheet's buyers and lots.
@@ -29,6 +59,56 @@ pub struct Worths {
     pub buyers: u8,
     pub lots: u8,
     pub worths: [u16; 96],
+}
+
+impl From<Refusal> for Fault {
+    ghost from_gives = { λ r f. f ≡ fault_of r };
+
+    fn from(refusal: Refusal) -> Fault {
+        let (number, place) = match refusal {
+            Refusal::Short => (1, 0),
+            Refusal::Head => (2, 0),
+            Refusal::Buyers => (3, 0),
+            Refusal::Lots => (4, 0),
+            Refusal::Length => (5, 0),
+            Refusal::Malformed(place) => (6, place),
+            Refusal::TooLarge(place) => (7, place),
+            Refusal::Falls(place) => (8, place),
+            Refusal::Record => (9, 0),
+            Refusal::Buyer => (10, 0),
+            Refusal::Room => (11, 0),
+        };
+        Fault { number, place }
+    }
+}
+
+impl From<Refusal> for Worths {
+    ghost from_gives = { λ r w. w ≡ refused_worths r };
+
+    fn from(refusal: Refusal) -> Worths {
+        let fault = Fault::from(refusal);
+        Worths {
+            number: fault.number,
+            place: fault.place,
+            buyers: 0,
+            lots: 0,
+            worths: [0; 96],
+        }
+    }
+}
+
+impl From<Refusal> for Read {
+    ghost from_gives = { λ r a. a ≡ refused_read r };
+
+    fn from(refusal: Refusal) -> Read {
+        let fault = Fault::from(refusal);
+        Read {
+            number: fault.number,
+            place: fault.place,
+            buyers: 0,
+            lots: 0,
+        }
+    }
 }
 
 // Does nothing. Its contract has the theorems about sheets, so that none can be dropped unseen.
