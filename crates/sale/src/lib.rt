@@ -3,10 +3,12 @@
 #![tactic(auto)]
 
 ghost use Rattle.std.specs.Prelude.{◌≡◌};
-ghost use Rattle.sheet.specs.Questions.{fault};
+ghost use Rattle.sheet.specs.Refusals.{fault_of};
 ghost use Rattle.offers.specs.House.{HouseSales};
 ghost use Rattle.sale.specs.Answers.{refused_demand, refused_settled, refused_sale};
 ghost use Rattle.sale.specs.Answers.{OneAnswer, Sales, SettledAnswers};
+
+use sheet::{Fault, Refusal};
 
 // A refusal, or a buyer's demand set and whether it is keen.
 #[repr(C)]
@@ -42,40 +44,49 @@ pub struct Sale {
     pub payments: [u32; 6],
 }
 
-pub fn refused_demand(number: u8, place: u32) -> Demand
-    ensures { result ≡ refused_demand (fault number place) }
-{
-    Demand {
-        number,
-        place,
-        bundles: 0,
-        keen: false,
+impl From<Refusal> for Demand {
+    ghost from_gives = { λ refusal demand. demand ≡ refused_demand (fault_of refusal) };
+
+    fn from(refusal: Refusal) -> Self {
+        let fault = Fault::from(refusal);
+        Demand {
+            number: fault.number,
+            place: fault.place,
+            bundles: 0,
+            keen: false,
+        }
     }
 }
 
-pub fn refused_settled(number: u8, place: u32) -> Settled
-    ensures { result ≡ refused_settled (fault number place) }
-{
-    Settled {
-        number,
-        place,
-        settled: false,
+impl From<Refusal> for Settled {
+    ghost from_gives = { λ refusal settled. settled ≡ refused_settled (fault_of refusal) };
+
+    fn from(refusal: Refusal) -> Self {
+        let fault = Fault::from(refusal);
+        Settled {
+            number: fault.number,
+            place: fault.place,
+            settled: false,
+        }
     }
 }
 
-pub fn refused_sale(number: u8, place: u32) -> Sale
-    ensures { result ≡ refused_sale (fault number place) }
-{
-    Sale {
-        number,
-        place,
-        buyers: 0,
-        lots: 0,
-        rounds: 0,
-        prices: [0; 96],
-        owners: [0; 4],
-        discounts: [0; 6],
-        payments: [0; 6],
+impl From<Refusal> for Sale {
+    ghost from_gives = { λ refusal sale. sale ≡ refused_sale (fault_of refusal) };
+
+    fn from(refusal: Refusal) -> Self {
+        let fault = Fault::from(refusal);
+        Sale {
+            number: fault.number,
+            place: fault.place,
+            buyers: 0,
+            lots: 0,
+            rounds: 0,
+            prices: [0; 96],
+            owners: [0; 4],
+            discounts: [0; 6],
+            payments: [0; 6],
+        }
     }
 }
 

@@ -1,4 +1,4 @@
--- A refusal as its number and place (`fault_of`), in an answer that may be one (`refused_as`), and the fault of a
+-- A refusal as its number and place (`fault_of`), in an answer that may be one (`refused_as`, `told`), and the fault of a
 -- question by the place that is wrong, if there is one (`fault_at`).
 use Rattle.std.specs.Prelude.{ℕ, Option, Some, None, Result, Ok, Err}
 use Rattle.sheet.specs.declared.Fault.{Fault}
@@ -27,3 +27,8 @@ refused_as (Err r) = fault_of r
 abbrev pub fault_at : ℕ → Option ℕ → Fault
 fault_at q None = fault 0 0
 fault_at q (Some p) = fault q p
+
+-- the answer, or that of a refusal
+abbrev pub told : {T : Type 0} → (Fault → T) → Result T Refusal → T
+told refused (Ok x) = x
+told refused (Err r) = refused (fault_of r)
