@@ -2,14 +2,16 @@
 -- the buyers that own something, from the last down (`set_with`, `set-without`, `set_all`), over words into the values
 -- of sets (`values_rise`, `values_stay`), over economies (`raise_here`, `raise_not`), and over words into the greatest
 -- totals of all economies (`Reached`).
-use mathlib.Core.Path.{◌≡◌, refl, ap, ◌∙◌}
-use mathlib.Core.Bool.{Bool, not}
+use mathlib.Core.Path.{◌≡◌, refl, sym, ap, ◌∙◌}
+use mathlib.Core.Bool.{Bool}
 use mathlib.Core.List.{List}
-use Prim.Native.Nat.{ℕ, suc, max, ◌+◌, ◌-◌, ◌*◌, ◌≤◌, ◌<◌}
-use native.Mathlib.Decide.{dec_le}
+use Prim.Native.Nat.{ℕ, zero, suc, max, ◌+◌, ◌-◌, ◌*◌, ◌^◌, ◌≤◌, ◌<◌}
+use native.Mathlib.Decide.{ℕ_discrete, dec_le}
+use native.Mathlib.Nat.{pow-zero, pow-succ'}
 use native.Mathlib.Omega.{arith}
 use lib.Dec.{eqb}
 use lib.ListN.{length, drop, get_or, set}
+use lib.Seq.{get_or-set_same, get_or-set_other}
 use borrow.Author.Tests.{eq-eqb, ne_eqb, eqb-true, eqb-false}
 use Rattle.theory.specs.Sums.{when, sum}
 use Rattle.theory.specs.Lists.{most}
@@ -17,12 +19,12 @@ use Rattle.theory.specs.Coalitions.{holder}
 use Rattle.theory.specs.Tests.{every}
 use Rattle.theory.proofs.Sums.{sum_same}
 use Rattle.theory.proofs.Tests.{by_test, itself, every_means}
-use Rattle.theory.proofs.Loops.{Revised, revised_set, revised_skip, most_next, most-over, put_rises, put_stays}
+use Rattle.theory.proofs.Loops.{most_next, most-over}
 use Rattle.numbers.specs.Numbers.{Is}
 use Rattle.owners.specs.Owners.{number}
 use Rattle.owners.specs.Prices.{bidders, entry}
 use Rattle.owners.specs.Singles.{AtMost}
-use Rattle.owners.proofs.Bits.{number_down}
+use Rattle.owners.proofs.Bits.{number_small}
 use Rattle.lists.specs.Words.{digit, word_market}
 use Rattle.totals.specs.Totals.{word_total, word_in, word_total_in, word_holders, word_total_by, limit_by}
 
@@ -48,21 +50,21 @@ each_total low m all t first few short =
     sum_same (bidders low m) low _ _
     (λ i r. ap (entry t i) (each_digit (all - 1) i (omega arith) (omega (arith, bidders-count low m first))))
 
--- n is the number of the set of those after i, and d what i owns
-module _ (m w i n d : ℕ) (lo : 1 ≤ i) (hi : i ≤ m) (e : n ≡ number (m - i) (suc i) (holder (word_market 1 m) w))
-    (ed : d ≡ digit i w) where
-  opened : when (not (eqb d 0)) 1 + 2 * n ≡ number (m - (i - 1)) (suc (i - 1)) (holder (word_market 1 m) w)
-  opened = rw ed (number_down m i n (holder (word_market 1 m) w) lo hi e)
+-- the number of a set of buyers, as the sum of their powers of two
+powers_from : (k j : ℕ) (t : ℕ → Bool) → sum k j (λ i. when (t (suc i)) (2 ^ i)) ≡ 2 ^ j * number k (suc j) t
+unfolding number
+powers_from zero j t = omega arith
+powers_from (suc k) j t =
+    by_test (t (suc j))
+    (λ e. rw (e, powers_from k (suc j) t, pow-succ' 2 j) (omega arith))
+    (λ e. rw (e, powers_from k (suc j) t, pow-succ' 2 j) (omega arith))
 
-  pub set_with : (d ≡ 0 → ⊥) → (n' : ℕ) → n' ≡ 2 * n + 1 → n' ≡ number (m - (i - 1)) (suc (i - 1))
-      (holder (word_market 1 m) w)
-  set_with h n' en = omega (arith, rw (ne_eqb d 0 h) at opened)
+module _ (m w : ℕ) where
+  pub holders_are : sum m 0 (λ j. when (holder (word_market 1 m) w (suc j)) (2 ^ j)) ≡ word_holders m w
+  holders_are = omega (arith, powers_from m 0 (holder (word_market 1 m) w), pow-zero)
 
-  pub set-without : d ≡ 0 → (n' : ℕ) → n' ≡ 2 * n → n' ≡ number (m - (i - 1)) (suc (i - 1)) (holder (word_market 1 m) w)
-  set-without h n' en = omega (arith, rw (eq-eqb d 0 h) at opened)
-
-pub set_all : (m w i n : ℕ) → i ≡ 0 → n ≡ number (m - i) (suc i) (holder (word_market 1 m) w) → n ≡ word_holders m w
-set_all m w i n z e = let f : m - i ≡ m = omega arith in e ∙ rw (f, z) refl
+  pub holders_small : m ≤ 6 → word_holders m w < 64
+  holders_small h = number_small m 1 (holder (word_market 1 m) w) h
 
 -- one word taken into the values: its holders' number is `at`, and its total `total`
 module _ (low m : ℕ) (ws l vs : List ℕ) (k at total n T : ℕ) (h : k < length l)
@@ -72,24 +74,19 @@ module _ (low m : ℕ) (ws l vs : List ℕ) (k at total n T : ℕ) (h : k < leng
       max v (most (word_total_by low m ws n) (drop (k + 1) l)) ≡ T
   taken_in v e = most_next l k h (word_total_by low m ws n) (get_or vs n 0) v T inv (e ∙ rw (ea, et) refl)
 
-  pub values_rise : at < length vs → get_or vs at 0 < total → max (get_or (set vs at total) n 0)
-      (most (word_total_by low m ws n) (drop (k + 1) l)) ≡ T
-  values_rise r g = taken_in _ (put_rises vs at total n r g)
-
-  pub values_stay : total ≤ get_or vs at 0 → max (get_or vs n 0) (most (word_total_by low m ws n) (drop (k + 1) l)) ≡ T
-  values_stay g = taken_in _ (put_stays vs at total n g)
+  pub value_raised : at < length vs → (v : ℕ) → v ≡ max (get_or vs at 0) total →
+      max (get_or (set vs at v) n 0) (most (word_total_by low m ws n) (drop (k + 1) l)) ≡ T
+  value_raised r v e =
+      taken_in _
+      (elim (ℕ_discrete at n) [
+        | yes q ↦ rw (← q, eq-eqb at at refl, get_or-set_same vs at v 0 r) e
+        | no q ↦ rw (ne_eqb at n q, get_or-set_other vs at n v 0 (λ z. q (sym z))) (omega arith)
+      ])
 
 -- one word taken into the greatest totals, economy by economy; x is what it counts in economy e
 module _ (w total : ℕ) (old : List ℕ) where
   abbrev pub raised_to : ℕ → ℕ → Type 0
   raised_to e v = v ≡ max (get_or old e 0) (when (word_in e w) total)
-
-  module _ (l : List ℕ) (e x : ℕ) (g : Revised raised_to 7 old e l) (ex : x ≡ when (word_in e w) total) where
-    pub raise_here : e < 7 → get_or l e 0 < x → Revised raised_to 7 old (e + 1) (set l e x)
-    raise_here h r = revised_set raised_to 7 old e l g h x (omega (arith, g.rest e (omega arith)))
-
-    pub raise_not : x ≤ get_or l e 0 → Revised raised_to 7 old (e + 1) l
-    raise_not r = revised_skip raised_to 7 old e l g (omega (arith, g.rest e (omega arith)))
 
 -- the greatest totals of the first k words
 module _ (low m : ℕ) (t l : List ℕ) where

@@ -1,46 +1,44 @@
-// Totals of allocations, by loops over a list of their words. Tables have sixteen numbers to a bidder; bidders go from
-// `low`, 1 for the buyers only and 0 with the house, to `buyers`, at most 6.
+// Totals of allocations, by loops over a list of their words.
 #![tactic(auto)]
 
-ghost use Rattle.std.specs.Prelude.{◌≡◌, ℕ, max, ◌*◌, ◌≤◌, ◌<◌, eqb, length, get_or};
+ghost use Rattle.std.specs.Prelude.{◌≡◌, ℕ, max, ◌≤◌, ◌<◌, eqb, length, get_or};
+ghost use Rattle.std.specs.List.{find};
 ghost use Rattle.theory.specs.Sums.{when};
-ghost use Rattle.theory.specs.Lists.{most, first};
+ghost use Rattle.theory.specs.Lists.{most};
 ghost use Rattle.numbers.specs.Numbers.{Is};
-ghost use Rattle.owners.specs.Prices.{rows};
 ghost use Rattle.owners.specs.Singles.{AtMost};
 ghost use Rattle.offers.specs.Places.{at_place, per_buyer};
 ghost use Rattle.totals.specs.Totals.{word_total, word_in, word_total_in, word_holders, word_total_by};
 ghost use Rattle.totals.specs.Totals.{limit_by, word_payment};
 
 use lists::digit_of;
-use numbers::less;
-use tables::entry;
+use numbers::power;
+use std::array;
+use tables::{Table, entry};
 
 // The word that has 1 as the bundle of each bidder, 0 to 6.
 const EACH: u64 = 17895697;
 
 // The sum of what stands in a table for what the bidders own.
-pub fn total_of(table: &[u16], low: usize, buyers: usize, word: u64) -> u32
-    requires { (low ≤ 1) × (buyers ≤ 6) × (16 * rows low ≤ length table.now) }
-    ensures { Is (word_total low buyers table.now word) result 458745 }
+pub fn total_of(table: &Table, word: u64) -> u32
+    ensures { Is (word_total table.now.bidders.low table.now.bidders.buyers table.now.numbers.now word)
+        result 458745 }
 {
-    let mut total: u32 = 0;
-    let mut i: usize = low;
-    while i <= buyers {
-        let s = digit_of(word, i);
-        total += entry(table, i, s);
-        i += 1;
+    let mut total = 0;
+    for i in table.bidders.low..=table.bidders.buyers {
+        total += entry(table.numbers, i, digit_of(word, i));
     }
     total
 }
 
 // Question 9's sum (rule 3.9), what all lots are worth to each bidder: the total of a word in which each has them all.
-pub fn limit_of(worths: &[u16], low: usize, buyers: usize, bundles: usize) -> u32
-    requires { (low ≤ 1) × (buyers ≤ 6) × (1 ≤ bundles) × (bundles ≤ 16) × (16 * rows low ≤ length worths.now) }
-    ensures { Is (limit_by low buyers bundles worths.now) result 458745 }
+pub fn limit_of(table: &Table, bundles: usize) -> u32
+    requires { (1 ≤ bundles) × (bundles ≤ 16) }
+    ensures { Is (limit_by table.now.bidders.low table.now.bidders.buyers bundles table.now.numbers.now)
+        result 458745 }
 {
     let top = bundles as u64 - 1;
-    total_of(worths, low, buyers, top * EACH)
+    total_of(table, top * EACH)
 }
 
 // Whether a word is one of the economy without `absent`, or of all for 0.
@@ -48,10 +46,7 @@ pub fn in_economy(word: u64, absent: usize) -> bool
     requires { absent ≤ 6 }
     ensures { result ≡ word_in absent word }
 {
-    if absent == 0 {
-        return true;
-    }
-    digit_of(word, absent) == 0
+    absent == 0 || digit_of(word, absent) == 0
 }
 
 // A word's total if it is one of the economy, else 0.
@@ -59,26 +54,18 @@ fn total_in(word: u64, absent: usize, total: u32) -> u32
     requires { absent ≤ 6 }
     ensures { result ≡ when (word_in absent word) total }
 {
-    if in_economy(word, absent) {
-        return total;
-    }
-    0
+    if in_economy(word, absent) { total } else { 0 }
 }
 
 // The greatest total of the economy without `absent`, or of all for 0.
-pub fn greatest_total(list: &[u64], table: &[u16], low: usize, buyers: usize, absent: usize) -> u32
-    requires { (low ≤ 1) × (buyers ≤ 6) × (absent ≤ 6) × (16 * rows low ≤ length table.now) }
-    ensures { result ≡ most (word_total_in low buyers table.now absent) list.now }
+pub fn greatest_total(list: &[u64], table: &Table, absent: usize) -> u32
+    requires { absent ≤ 6 }
+    ensures { result ≡ most
+        (word_total_in table.now.bidders.low table.now.bidders.buyers table.now.numbers.now absent) list.now }
 {
     let mut greatest: u32 = 0;
-    let mut k: usize = 0;
-    while k < list.len() {
-        let word = list[k];
-        let t = total_in(word, absent, total_of(table, low, buyers, word));
-        if greatest < t {
-            greatest = t;
-        }
-        k += 1;
+    for word in list {
+        greatest = greatest.max(total_in(*word, absent, total_of(table, *word)));
     }
     greatest
 }
@@ -91,57 +78,35 @@ fn raise_greatest(greatest: &mut [u32; 7], buyers: usize, word: u64, total: u32)
         ≡ max (get_or greatest.old e 0) (when (word_in e word) total))
         × ((e : ℕ) → buyers < e → get_or greatest.new e 0 ≡ get_or greatest.old e 0) }
 {
-    let mut e: usize = 0;
-    while e <= buyers {
-        let t = total_in(word, e, total);
-        if greatest[e] < t {
-            greatest[e] = t;
-        }
-        e += 1;
+    for e in 0..=buyers {
+        greatest[e] = greatest[e].max(total_in(word, e, total));
     }
 }
 
 // The greatest total of each economy: of all at 0, then without each buyer; 0 at the places past the last buyer.
-pub fn greatest_totals(list: &[u64], table: &[u16], low: usize, buyers: usize) -> [u32; 7]
-    requires { (low ≤ 1) × (buyers ≤ 6) × (16 * rows low ≤ length table.now) }
-    ensures { ((e : ℕ) → e ≤ buyers →
-        Is (most (word_total_in low buyers table.now e) list.now) (get_or result e 0) 458745)
-        × ((e : ℕ) → buyers < e → get_or result e 0 ≡ 0) }
+pub fn greatest_totals(list: &[u64], table: &Table) -> [u32; 7]
+    ensures { ((e : ℕ) → e ≤ table.now.bidders.buyers → Is
+        (most (word_total_in table.now.bidders.low table.now.bidders.buyers table.now.numbers.now e) list.now)
+        (get_or result e 0) 458745)
+        × ((e : ℕ) → table.now.bidders.buyers < e → get_or result e 0 ≡ 0) }
 {
-    let mut greatest = [0u32; 7];
-    let mut k: usize = 0;
-    while k < list.len() {
-        let word = list[k];
-        let total = total_of(table, low, buyers, word);
-        raise_greatest(&mut greatest, buyers, word, total);
-        k += 1;
+    let mut greatest = [0; 7];
+    for word in list {
+        let total = total_of(table, *word);
+        raise_greatest(&mut greatest, table.bidders.buyers, *word, total);
     }
     greatest
 }
 
-// Whether a word has a total.
-fn has_total(table: &[u16], low: usize, buyers: usize, total: u32, word: u64) -> bool
-    requires { (low ≤ 1) × (buyers ≤ 6) × (16 * rows low ≤ length table.now) }
-    ensures { result ≡ eqb (word_total low buyers table.now word) total }
-{
-    total_of(table, low, buyers, word) == total
-}
-
-// The first word of a total, 0 where there is none.
-pub fn first_of_total(list: &[u64], table: &[u16], low: usize, buyers: usize, total: u32) -> u64
-    requires { (low ≤ 1) × (buyers ≤ 6) × (16 * rows low ≤ length table.now) }
-    ensures { result ≡ first (λ w. eqb (word_total low buyers table.now w) total) 0
+// The first word of a total.
+pub fn first_of_total(list: &[u64], table: &Table, total: u32) -> Option<u64>
+    ensures { result ≡ find
+        (λ w. eqb (word_total table.now.bidders.low table.now.bidders.buyers table.now.numbers.now w) total)
         list.now }
 {
-    let mut k: usize = 0;
-    while k < list.len() {
-        let word = list[k];
-        if has_total(table, low, buyers, total, word) {
-            return word;
-        }
-        k += 1;
-    }
-    0
+    list.iter()
+        .copied()
+        .find(|word| total_of(table, *word) == total)
 }
 
 // The number of the set of buyers that own something.
@@ -149,73 +114,46 @@ fn set_of(word: u64, buyers: usize) -> usize
     requires { buyers ≤ 6 }
     ensures { Is (word_holders buyers word) result 63 }
 {
-    let mut set: usize = 0;
-    let mut i: usize = buyers;
-    while 0 < i {
-        set = 2 * set;
-        if digit_of(word, i) != 0 {
-            set += 1;
+    let mut set = 0;
+    for i in 0..buyers {
+        let bundle = digit_of(word, i + 1);
+        if bundle != 0 {
+            set += power(i);
         }
-        i -= 1;
     }
     set
 }
 
-// Raises each set's value to the greatest total that it holds.
-fn raise_values(list: &[u64], worths: &[u16], low: usize, buyers: usize, values: &mut [u32])
-    requires { (low ≤ 1) × (buyers ≤ 6) × (16 * rows low ≤ length worths.now) × (64 ≤ length values.old) }
-    ensures { (n : ℕ) → get_or values.new n 0
-        ≡ max (get_or values.old n 0)
-        (most (word_total_by low buyers worths.now n) list.now) }
+// The value of each set of buyers, the greatest total that it holds, by its number.
+pub fn values(list: &[u64], table: &Table) -> [u32; 64]
+    ensures { (n : ℕ) → get_or result n 0 ≡ most
+        (word_total_by table.now.bidders.low table.now.bidders.buyers table.now.numbers.now n) list.now }
 {
-    let mut k: usize = 0;
-    while k < list.len() {
-        let word = list[k];
-        let set = set_of(word, buyers);
-        let total = total_of(worths, low, buyers, word);
-        if values[set] < total {
-            values[set] = total;
-        }
-        k += 1;
+    let mut values = [0u32; 64];
+    for word in list {
+        let set = set_of(*word, table.bidders.buyers);
+        values[set] = values[set].max(total_of(table, *word));
     }
-}
-
-// The value of each set of buyers, by its number.
-pub fn values(list: &[u64], worths: &[u16], low: usize, buyers: usize) -> [u32; 64]
-    requires { (low ≤ 1) × (buyers ≤ 6) × (16 * rows low ≤ length worths.now) }
-    ensures { (n : ℕ) → get_or result n 0
-        ≡ most (word_total_by low buyers worths.now n) list.now }
-{
-    let mut t = [0u32; 64];
-    raise_values(list, worths, low, buyers, &mut t);
-    t
+    values
 }
 
 // What a buyer pays for its part of an allocation (rules 5.3 and 5.10), by the greatest totals of all and without it; 0
 // for an absent buyer. Place k is buyer k + 1's.
-fn payment_at(greatest: [u32; 7], table: &[u16], buyers: usize, word: u64, k: usize) -> u32
-    requires { (buyers ≤ 6) × (96 ≤ length table.now) × AtMost 458745 greatest }
-    ensures { result ≡ at_place buyers (word_payment greatest table.now word) k }
+fn payment_at(greatest: [u32; 7], table: &Table, word: u64, k: usize) -> u32
+    requires { AtMost 458745 greatest }
+    ensures { result ≡ at_place table.now.bidders.buyers (word_payment greatest table.now.numbers.now word) k }
 {
-    if buyers <= k {
+    if table.bidders.buyers <= k {
         return 0;
     }
-    let own = entry(table, k + 1, digit_of(word, k + 1));
-    let all = greatest[0];
-    let without = greatest[k + 1];
-    less(without + own, all)
+    let own = entry(table.numbers, k + 1, digit_of(word, k + 1));
+    (greatest[k + 1] + own).saturating_sub(greatest[0])
 }
 
 // What each buyer pays: by prices in a sale, by worths in the direct way.
-pub fn payments(greatest: [u32; 7], table: &[u16], buyers: usize, word: u64) -> [u32; 6]
-    requires { (buyers ≤ 6) × (96 ≤ length table.now) × AtMost 458745 greatest }
-    ensures { result ≡ per_buyer buyers (word_payment greatest table.now word) }
+pub fn payments(greatest: [u32; 7], table: &Table, word: u64) -> [u32; 6]
+    requires { AtMost 458745 greatest }
+    ensures { result ≡ per_buyer table.now.bidders.buyers (word_payment greatest table.now.numbers.now word) }
 {
-    let mut t = [0u32; 6];
-    let mut k: usize = 0;
-    while k < 6 {
-        t[k] = payment_at(greatest, table, buyers, word, k);
-        k += 1;
-    }
-    t
+    array::from_fn(|k| payment_at(greatest, table, word, k))
 }

@@ -3,24 +3,25 @@ use Rattle.theory.proofs.Lists.{zeros-at}
 use Rattle.totals.proofs.Digits.{reached_none, reached_more, reached_all}
 use Rattle.totals.proofs.greatest_totals.Goals as goal
 
-pub loop-k-init : goal.loop-k-init
-loop-k-init c =
-    let z = c.args in
-    reached_none z.low z.buyers z.table.now z.list.now _ refl (zeros-at 7)
+pub loop-word-init : goal.loop-word-init
+loop-word-init c =
+    let t = c.args.table.now in
+    reached_none t.bidders.low t.bidders.buyers t.numbers.now c.args.list.now _ refl (zeros-at 7)
 
-pub loop-k-preserved : goal.loop-k-preserved
-loop-k-preserved c =
-    let z = c.args in
-    let l = c.loop-k in
-    let t = c.total_of-total in
+pub loop-word-preserved : goal.loop-word-preserved
+loop-word-preserved c =
+    let t = c.args.table.now in
+    let l = c.loop-word in
+    let total = c.total_of-total in
     let r = c.raise_greatest in
-    reached_more z.low z.buyers z.table.now z.list.now l.k l.greatest l.invariant (omega arith) t.result t.ensures.is
-    t.ensures.most _ r.ensures.0 r.ensures.1 r.ensures.2
+    reached_more t.bidders.low t.bidders.buyers t.numbers.now c.args.list.now l.word-index l.greatest l.invariant
+    (omega arith) total.result total.ensures.is total.ensures.most _ r.ensures.0 r.ensures.1 r.ensures.2
 
 pub returns : goal.returns
 returns c =
-    let z = c.args in
-    let l = c.loop-k in (
-      reached_all z.low z.buyers z.table.now z.list.now l.k l.greatest l.invariant (omega arith),
+    let t = c.args.table.now in
+    let l = c.loop-word in (
+      reached_all t.bidders.low t.bidders.buyers t.numbers.now c.args.list.now l.word-index l.greatest l.invariant
+          (omega arith),
       l.invariant.past,
     )

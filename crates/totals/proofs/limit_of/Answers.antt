@@ -1,13 +1,13 @@
 -- `totals::limit_of` meets its contract.
-use Rattle.std.proofs.Common.{◌∙◌, arith}
+use Rattle.std.proofs.Common.{◌∙◌, rules, arith}
 use Rattle.totals.proofs.Digits.{each_total}
 use Rattle.totals.proofs.limit_of.Goals as goal
 
 pub returns : goal.returns
 returns c =
-    let z = c.args in
-    let t = c.total_of in
+    let t = c.args.table.now in
     record {
-      is = t.ensures.is ∙ each_total z.low z.buyers z.bundles z.worths.now c.requires.0 c.requires.1 (omega arith);
-      most = t.ensures.most;
+      is = c.total_of.ensures.is
+          ∙ each_total t.bidders.low t.bidders.buyers c.args.bundles t.numbers.now (search rules) (search rules) (omega arith);
+      most = c.total_of.ensures.most;
     }

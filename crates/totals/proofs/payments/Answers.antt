@@ -1,8 +1,13 @@
-use Rattle.std.proofs.Common.{arith}
-use Rattle.theory.proofs.Loops.{filled_all}
-use Rattle.offers.specs.Places.{per_buyer}
+-- `totals::payments` meets its contract.
+use Rattle.std.proofs.Common.{rules}
+use Rattle.offers.specs.Places.{at_place, per_buyer}
+use Rattle.lists.proofs.Made.{made_by}
+use Rattle.totals.specs.Totals.{word_payment}
 use Rattle.totals.proofs.payments.Goals as goal
 
 pub returns : goal.returns
 unfolding per_buyer
-returns c = filled_all _ 6 c.loop-k.k _ (omega arith) c.loop-k.invariant
+returns c =
+    let t = c.args.table.now in
+    made_by _ (at_place t.bidders.buyers (word_payment c.args.greatest t.numbers.now c.args.word)) 6 _
+    (λ i y d h call. search rules) _ c.from_fn.ensures.items

@@ -1,49 +1,44 @@
-use Rattle.std.proofs.Common.{ℕ, suc, ◌≡◌, ◌-◌, ◌≤◌, ◌<◌, arith}
+use Rattle.std.proofs.Common.{◌≡◌, Bool, ℕ, suc, true, false, not, eqb, refl, add-one, arith}
+use borrow.Author.Tests.{eq-eqb, ne_eqb}
 use Rattle.theory.specs.Coalitions.{holder}
-use Rattle.owners.specs.Owners.{number}
-use Rattle.owners.proofs.Bits.{number_none, number_small}
-use Rattle.lists.specs.Words.{word_market}
-use Rattle.totals.proofs.Digits.{set_with, set-without, set_all}
+use Rattle.demand.proofs.Loops.{gathered_none, gathered_in, gathered_out, gathered_all}
+use Rattle.lists.specs.Words.{digit, word_market}
+use Rattle.totals.proofs.Digits.{holders_are, holders_small}
 use Rattle.totals.proofs.set_of.Goals as goal
-use Rattle.totals.proofs.set_of.Goals.{then-digit_of-ne0, else-digit_of-ne0}
+use Rattle.totals.proofs.set_of.Goals.{then-bundle-ne0, else-bundle-ne0}
 
-small : (m w i set : ℕ) → m ≤ 6 → set ≡ number (m - i) (suc i) (holder (word_market 1 m) w) → set < 64
-small m w i set few e = omega (arith, e, number_small (m - i) (suc i) (holder (word_market 1 m) w) (omega arith))
+-- a buyer that owns bundle d
+owned : (d e : ℕ) → d ≡ e → (d ≡ 0 → ⊥) → true ≡ not (eqb e 0)
+owned d e same some = rw (← same, ne_eqb d 0 some) refl
+
+free : (d e : ℕ) → d ≡ e → d ≡ 0 → false ≡ not (eqb e 0)
+free d e same none = rw (← same, eq-eqb d 0 none) refl
 
 pub loop-i-init : goal.loop-i-init
-loop-i-init c = (omega arith, number_none c.args.buyers (holder (word_market 1 c.args.buyers) c.args.word))
-
-pub overflow_mul-set : goal.overflow_mul-set
-overflow_mul-set c =
-    let l = c.loop-i in omega (arith, small c.args.buyers c.args.word l.i l.set c.requires l.invariant.1)
-
-pub overflow_add-set : goal.overflow_add-set
-overflow_add-set c =
-    let l = c.loop-i in omega (arith, small c.args.buyers c.args.word l.i l.set c.requires l.invariant.1)
+loop-i-init c =
+    let none = gathered_none (λ j. holder (word_market 1 c.args.buyers) c.args.word (suc j)) c.args.buyers in
+    rw (holders_are c.args.buyers c.args.word) at none
 
 pub loop-i-preserved : goal.loop-i-preserved
 loop-i-preserved c =
     let z = c.args in
     let l = c.loop-i in
-    let d = c.digit_of in
-    elim c.if-digit_of-ne0.branch [
-      | then-digit_of-ne0 w ↦ (
-        omega arith,
-        set_with z.buyers z.word l.i l.set _ (omega arith) (omega arith) l.invariant.1 d.ensures.is
-            w.if-digit_of-ne0.true _ w.set-is,
-      )
-      | else-digit_of-ne0 w ↦ (
-        omega arith,
-        set-without z.buyers z.word l.i l.set _ (omega arith) (omega arith) l.invariant.1 d.ensures.is
-            w.if-digit_of-ne0.false _ w.set-is,
-      )
+    let owns : ℕ → Bool = λ j. holder (word_market 1 z.buyers) z.word (suc j) in
+    let next = suc l.i in
+    let bundle : c.digit_of-bundle.result ≡ digit next z.word =
+    rw (← add-one l.i) c.digit_of-bundle.ensures.is in
+    elim c.if-bundle-ne0.branch [
+      | then-bundle-ne0 w ↦
+          gathered_in owns z.buyers l.i l.set _ l.invariant c.loop-i-test.true true
+          (owned _ _ bundle w.if-bundle-ne0.true) _ refl w.power-set.result w.power-set.ensures.is w.set-is
+      | else-bundle-ne0 w ↦
+          gathered_out owns z.buyers l.i l.set _ l.invariant c.loop-i-test.true false (free _ _ bundle w.if-bundle-ne0.false) _ refl w.set-is
     ]
 
 pub returns : goal.returns
 returns c =
     let z = c.args in
     let l = c.loop-i in
-    record {
-      is = set_all z.buyers z.word l.i _ (omega arith) l.invariant.1;
-      most = omega (arith, small z.buyers z.word l.i l.set c.requires l.invariant.1);
-    }
+    let all = gathered_all (λ j. holder (word_market 1 z.buyers) z.word (suc j)) z.buyers l.i l.set _ l.invariant
+    (omega arith) in
+    record { is = all; most = omega (arith, all, holders_small z.buyers z.word c.requires) }
