@@ -1,13 +1,16 @@
 -- What stands in a word is what stands in the allocation, so that loops over the words of an offer find what the
 -- definitions say of its allocations: the greatest total of an economy (`greatest_found`), the first list that passes
--- (`owners_found`, `bundle_found`), the values of sets (`value_found`), and question 9's sum (`limit_found`).
+-- (`first_found`, `owners_found`, `bundle_found`), the values of sets (`value_found`), and question 9's sum
+-- (`limit_found`).
 use mathlib.Core.Path.{◌≡◌, refl, ap, ap₂, ◌∙◌}
 use mathlib.Core.Bool.{Bool, not, ◌||◌}
-use mathlib.Core.List.{List, []}
+use mathlib.Core.List.{List, [], ◌∷◌}
 use Prim.Native.Nat.{ℕ, zero, suc, ◌-◌, ◌≤◌}
 use native.Mathlib.Omega.{arith}
 use lib.Dec.{eqb, eqb-suc-zero}
 use borrow.Author.Tests.{eqb-true, eqb-false}
+use Rattle.std.specs.List.{find}
+use Rattle.std.specs.Option.{unwrap_or}
 use Rattle.theory.specs.Sums.{when, Among}
 use Rattle.theory.specs.Lists.{◌∈◌, most, first}
 use Rattle.theory.specs.Markets.{total}
@@ -107,3 +110,8 @@ module _ (O : Offer) (packed : Packed O) where
           ap (digit i) word_is
           ∙ first_such (λ a. digit i (word_of O.share a) ≡ bundle_from O.share 0 i a) v [] O.lists
           (word_bundle O.share [] (none_packs O.share) i (omega arith)) (λ a q. held O packed a q i h)
+
+-- the first word that passes, by what a search for it answers; 0, the word of no owner, where there is none
+pub first_found : (t : ℕ → Bool) (l : List ℕ) → unwrap_or (find t l) 0 ≡ first t 0 l
+first_found t [] = refl
+first_found t (w ∷ l) = by_test (t w) (λ e. rw e refl) (λ e. rw e (first_found t l))

@@ -1,7 +1,7 @@
 -- `totals::payments` meets its contract.
 use Rattle.std.proofs.Common.{rules}
 use Rattle.offers.specs.Places.{at_place, per_buyer}
-use Rattle.lists.proofs.Made.{made_by}
+use Rattle.theory.proofs.Arrays.{made_by}
 use Rattle.totals.specs.Totals.{word_payment}
 use Rattle.totals.proofs.payments.Goals as goal
 
