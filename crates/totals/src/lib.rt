@@ -98,6 +98,14 @@ pub fn greatest_totals(list: &[u64], table: &Table) -> [u32; 7]
     greatest
 }
 
+// Whether a word has a total.
+fn has_total(table: &Table, total: u32, word: u64) -> bool
+    ensures { result ≡ eqb
+        (word_total table.now.bidders.low table.now.bidders.buyers table.now.numbers.now word) total }
+{
+    total_of(table, word) == total
+}
+
 // The first word of a total.
 pub fn first_of_total(list: &[u64], table: &Table, total: u32) -> Option<u64>
     ensures { result ≡ find
@@ -106,7 +114,7 @@ pub fn first_of_total(list: &[u64], table: &Table, total: u32) -> Option<u64>
 {
     list.iter()
         .copied()
-        .find(|word| total_of(table, *word) == total)
+        .find(|word| has_total(table, total, *word))
 }
 
 // The number of the set of buyers that own something.
