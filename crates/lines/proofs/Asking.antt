@@ -1,52 +1,82 @@
--- The questions in their order: what each answer says of the sheet's fault. Offers one law for each way out of
--- `ask_each`, `ask_lines` and `ask_head`.
+-- The questions in their order: what each answer says of the sheet's fault. Offers the answer of a test put to each
+-- place (`place_tested`, `place_found`), a question's fault by it (`place_fault`), and one law for each way out of
+-- `ask_lines`.
 use mathlib.Core.Path.{◌≡◌, refl, ap, ◌∙◌}
 use mathlib.Core.Bool.{Bool}
-use mathlib.Core.List.{List}
+use mathlib.Core.List.{List, []}
 use Prim.Native.Nat.{ℕ, zero, suc, ◌/◌, ◌%◌, ◌^◌}
 use native.Mathlib.Omega.{arith}
+use Rattle.std.specs.Prelude.{Option, Some, None}
 use Rattle.sheet.specs.declared.Fault.{Fault}
-use Rattle.sheet.specs.Sheets.{offset, Sheet}
-use Rattle.sheet.specs.Questions.{fault, ask_each, wrong, first_wrong, lines_fault}
-
--- a question put to each place
-abbrev pub asked_alone : ℕ → ℕ → ℕ → Fault
-asked_alone q n x = ask_each q n x (λ _. fault 0 0)
+use Rattle.sheet.specs.Sheets.{offset, Sheet, as_sheet}
+use Rattle.sheet.specs.Questions.{fault, ask_each, first_wrong, lines_fault}
+use Rattle.sheet.specs.Refusals.{fault_at}
+use Rattle.lines.specs.Places.{place_of}
 
 -- the code divides by the number of places of a line
-pub place_asked : (q n z k : ℕ) (b : List ℕ) (w : Sheet) (t : Bool) → z ≡ 2 ^ n → t ≡ wrong q b w (k / z) (k % z) →
-    t ≡ wrong q b w (k / 2 ^ n) (k % 2 ^ n)
-place_asked q n z k b w t e h = rw e at h
+pub place_tested : (n z k : ℕ) (t : ℕ → ℕ → Bool) (r : Bool) → z ≡ 2 ^ n → r ≡ t (k / z) (k % z) →
+    r ≡ t (k / 2 ^ n) (k % 2 ^ n)
+place_tested n z k t r e h = rw e at h
 
-pub each_found : (q n z k at x : ℕ) → z ≡ 2 ^ n → at ≡ offset n (k / z) (k % z) → suc k ≡ x →
-    fault q at ≡ asked_alone q n x
-each_found q n z k at x e h f = ap (fault q) h ∙ ap (λ y. fault q (offset n (k / y) (k % y))) e ∙ ap (asked_alone q n) f
+pub place_found : (n z k at x : ℕ) → z ≡ 2 ^ n → at ≡ offset n (k / z) (k % z) → suc k ≡ x → Some at ≡ place_of n x
+place_found n z k at x e h f = ap Some (h ∙ ap (λ y. offset n (k / y) (k % y)) e) ∙ ap (place_of n) f
 
-pub each_none : (q n x : ℕ) → 0 ≡ x → fault 0 0 ≡ asked_alone q n x
-each_none q n x f = ap (asked_alone q n) f
+-- a question's fault by the first place that is wrong
+pub place_fault : (q n x : ℕ) → fault_at q (place_of n x) ≡ ask_each q n x (λ _. fault 0 0)
+place_fault q n zero = refl
+place_fault q n (suc k) = refl
 
--- what its answer says
-refused_by : (q n x : ℕ) (f : Fault) (rest : Unit {0} → Fault) → f ≡ asked_alone (suc q) n x → (f.number ≡ 0 → ⊥) →
-    f ≡ ask_each (suc q) n x rest
-refused_by q n zero f rest e h = absurd (h (ap (λ (g : Fault). g.number) e))
-refused_by q n (suc k) f rest e h = e
+-- what its answer says of the questions after it
+abbrev Asked : ℕ → ℕ → ℕ → Option ℕ → Type 0
+Asked q n x o = fault_at (suc q) o ≡ ask_each (suc q) n x (λ _. fault 0 0)
 
-pub passed_by : (q n x : ℕ) (f : Fault) → f ≡ asked_alone (suc q) n x → f.number ≡ 0 → x ≡ 0
-passed_by q n zero f e h = refl
-passed_by q n (suc k) f e h = absurd (let z : f.number ≡ suc q = ap (λ (g : Fault). g.number) e in omega arith)
+refused_by : (q n x p : ℕ) (rest : Unit {0} → Fault) → Asked q n x (Some p) → fault (suc q) p ≡ ask_each (suc q) n x rest
+refused_by q n zero p rest e = absurd (let z : suc q ≡ 0 = ap (λ (f : Fault). f.number) e in omega arith)
+refused_by q n (suc k) p rest e = e
 
-module _ (b : List ℕ) (w : Sheet) (f : Fault) (e : f ≡ asked_alone 6 w.lots (first_wrong 6 b w)) where
-  pub lines-malformed : (f.number ≡ 0 → ⊥) → f ≡ lines_fault b w
+passed_by : (q n x : ℕ) → Asked q n x None → x ≡ 0
+passed_by q n zero e = refl
+passed_by q n (suc k) e = absurd (let z : 0 ≡ suc q = ap (λ (f : Fault). f.number) e in omega arith)
+
+-- questions 6, 7 and 8 of a sheet b with the numbers ws
+module _ (b ws : List ℕ) (m n : ℕ) where
+  abbrev w : Sheet
+  w = as_sheet m n ws
+
+  abbrev pub Six : Option ℕ → Type 0
+  Six = Asked 5 n (first_wrong 6 b (as_sheet m n []))
+
+  abbrev pub Seven : Option ℕ → Type 0
+  Seven = Asked 6 n (first_wrong 7 [] w)
+
+  abbrev pub Eight : Option ℕ → Type 0
+  Eight = Asked 7 n (first_wrong 8 [] w)
+
+  -- question 6 looks at no number, and 7 and 8 at no byte
+  by_bytes : first_wrong 6 b (as_sheet m n []) ≡ first_wrong 6 b w
+  unfolding first_wrong
+  by_bytes = refl
+
+  by_numbers : (first_wrong 7 [] w ≡ first_wrong 7 b w) × (first_wrong 8 [] w ≡ first_wrong 8 b w)
+  unfolding first_wrong
+  by_numbers = (refl, refl)
+
+  pub lines-malformed : (p : ℕ) → Six (Some p) → fault 6 p ≡ lines_fault b w
   unfolding lines_fault
-  lines-malformed h = refused_by 5 w.lots (first_wrong 6 b w) f _ e h
+  lines-malformed p e = refused_by 5 n (first_wrong 6 b w) p _ (rw by_bytes at e)
 
-  module _ (h : f.number ≡ 0) (g : Fault) (d : g ≡ asked_alone 7 w.lots (first_wrong 7 b w)) where
-    pub lines_large : (g.number ≡ 0 → ⊥) → g ≡ lines_fault b w
-    unfolding lines_fault
-    lines_large k =
-        rw (passed_by 5 w.lots (first_wrong 6 b w) f e h) (refused_by 6 w.lots (first_wrong 7 b w) g _ d k)
+  module _ (six : Six None) where
+    no_six : first_wrong 6 b w ≡ 0
+    no_six = passed_by 5 n (first_wrong 6 b w) (rw by_bytes at six)
 
-    pub lines-last : g.number ≡ 0 → (a : Fault) → a ≡ asked_alone 8 w.lots (first_wrong 8 b w) → a ≡ lines_fault b w
+    pub lines_large : (p : ℕ) → Seven (Some p) → fault 7 p ≡ lines_fault b w
     unfolding lines_fault
-    lines-last k a c =
-        rw (passed_by 5 w.lots (first_wrong 6 b w) f e h, passed_by 6 w.lots (first_wrong 7 b w) g d k) c
+    lines_large p e = rw no_six (refused_by 6 n (first_wrong 7 b w) p _ (rw by_numbers.0 at e))
+
+    module _ (seven : Seven None) where
+      no_seven : first_wrong 7 b w ≡ 0
+      no_seven = passed_by 6 n (first_wrong 7 b w) (rw by_numbers.0 at seven)
+
+      pub lines-last : (o : Option ℕ) → Eight o → fault_at 8 o ≡ lines_fault b w
+      unfolding lines_fault
+      lines-last o e = rw (no_six, no_seven) (rw by_numbers.1 at e)

@@ -1,3 +1,3 @@
--- Laws of one place of a line (Places), and of the questions put to each (Asking).
+-- Laws of one lot of a bundle (Places), and of the questions put to each place of the lines (Asking).
 pub mod Places
 pub mod Asking

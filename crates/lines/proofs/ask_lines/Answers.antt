@@ -1,28 +1,27 @@
 -- `lines::ask_lines` meets its contract.
-use Rattle.sheet.specs.Sheets.{as_sheet}
+use Rattle.std.proofs.Common.{Some, None}
 use Rattle.lines.proofs.Asking.{lines-malformed, lines_large, lines-last}
 use Rattle.lines.proofs.ask_lines.Goals as goal
 
-pub returns-then-malformed-ne0 : goal.returns-then-malformed-ne0
-returns-then-malformed-ne0 c =
+pub returns-in-Some : goal.returns-in-Some
+returns-in-Some c =
     let z = c.args in
-    let w = as_sheet z.m z.n z.numbers.now in
-    let f = c.ask_each-malformed in
-    lines-malformed z.sheet.now w f.result f.ensures c.if-malformed-ne0.true
+    lines-malformed z.sheet.now z.numbers.now z.size.buyers z.size.lots c.in-Some.place c.in-Some.ensures
 
-pub returns-then-large-ne0 : goal.returns-then-large-ne0
-returns-then-large-ne0 c =
+pub returns-in-Some-first_large : goal.returns-in-Some-first_large
+returns-in-Some-first_large c =
     let z = c.args in
-    let w = as_sheet z.m z.n z.numbers.now in
-    let f = c.ask_each-malformed in
-    let g = c.ask_each-large in
-    lines_large z.sheet.now w f.result f.ensures c.if-malformed-ne0.false g.result g.ensures c.if-large-ne0.true
+    lines_large z.sheet.now z.numbers.now z.size.buyers z.size.lots c.in_default.ensures c.in-Some-first_large.place
+    c.in-Some-first_large.ensures
+
+pub returns-in-Some-first_falling : goal.returns-in-Some-first_falling
+returns-in-Some-first_falling c =
+    let z = c.args in
+    lines-last z.sheet.now z.numbers.now z.size.buyers z.size.lots c.in_default.ensures
+    c.in_default-first_large.ensures (Some c.in-Some-first_falling.place) c.in-Some-first_falling.ensures
 
 pub returns : goal.returns
 returns c =
     let z = c.args in
-    let w = as_sheet z.m z.n z.numbers.now in
-    let f = c.ask_each-malformed in
-    let g = c.ask_each-large in
-    lines-last z.sheet.now w f.result f.ensures c.if-malformed-ne0.false g.result g.ensures c.if-large-ne0.false
-    c.ask_each.result c.ask_each.ensures
+    lines-last z.sheet.now z.numbers.now z.size.buyers z.size.lots c.in_default.ensures
+    c.in_default-first_large.ensures None c.in_default-first_falling.ensures

@@ -5,7 +5,5 @@ use Rattle.lines.proofs.Places.{grows_by}
 use Rattle.lines.proofs.grows_to.Given as goal
 
 abbrev pub invariant-loop-j : goal.invariant-loop-j
-invariant-loop-j l = every (l.n - l.j) l.j (grows_by l.numbers l.i l.s) ≡ every l.n 0 (grows_by l.numbers l.i l.s)
-
-abbrev pub decreases-loop-j : goal.decreases-loop-j
-decreases-loop-j l = l.n - l.j
+invariant-loop-j l =
+    every (l.fn.size.lots - l.j) l.j (grows_by l.numbers l.i l.s) ≡ every l.fn.size.lots 0 (grows_by l.numbers l.i l.s)

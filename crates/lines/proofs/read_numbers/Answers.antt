@@ -1,10 +1,6 @@
-use Rattle.std.proofs.Common.{refl}
 use Rattle.sheet.specs.Sheets.{worths_in}
-use Rattle.theory.proofs.Loops.{filled_none, filled_all}
+use Rattle.theory.proofs.Loops.{filled_all}
 use Rattle.lines.proofs.read_numbers.Goals as goal
-
-pub loop-k-init : goal.loop-k-init
-loop-k-init c = filled_none _ 96 _ refl
 
 pub returns : goal.returns
 unfolding worths_in

@@ -1,0 +1,2 @@
+-- Places of a sheet's lines.
+pub mod Places
