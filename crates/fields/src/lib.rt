@@ -13,8 +13,8 @@ pub struct FieldRead {
     pub field: Result<u32, usize>,
 }
 
-// The first `count` of a field's six columns: the faulty offset if one of them breaks rule 2.2; else the number so far, if
-// there is a digit among them: at each digit it becomes ten times itself plus the digit.
+// The first `count` of a field's six columns: the faulty offset if one of them breaks rule 2.2; else the number so far,
+// if there is a digit among them. At each digit the number becomes ten times itself plus the digit.
 fn read_columns(sheet: &[u8], at: usize, count: usize) -> Result<Option<u32>, usize>
     requires { (at + 6 ≤ length sheet.now) × (count ≤ 6) }
     ensures { (result ≡ running_at at count (take 6 (drop at sheet.now))) × (running_value result ≤ 999999) }
@@ -32,7 +32,7 @@ fn read_columns(sheet: &[u8], at: usize, count: usize) -> Result<Option<u32>, us
             return Err(at);
         }
         if b != b' ' {
-            let digit = u32::from(b - 48);
+            let digit = u32::from(b - b'0');
             number = Some(10 * number.unwrap_or(0) + digit);
         }
     }

@@ -17,19 +17,31 @@ pub struct Fault {
     pub place: u32,
 }
 
-// Why something is refused: the first question that gets a "no", 1 to 11 in this order, with the place of what is wrong.
+// Why something is refused: the question that gets the first no, with the place of what is wrong. The questions are
+// numbered from 1 on, in this order.
 #[derive(Clone, Copy, Debug, PartialEq, Eq)]
 pub enum Refusal {
+    // A sheet too short for a first line.
     Short,
+    // A first line that is not two numbers and a line end.
     Head,
+    // Not 1 to 6 buyers.
     Buyers,
+    // Not 1 to 4 lots.
     Lots,
+    // Not as many bytes, or numbers, as these buyers and lots have.
     Length,
+    // A field that is no number, or a line end that is none.
     Malformed(u32),
+    // A worth above 9,999.
     TooLarge(u32),
+    // A bundle worth less than one with a lot fewer.
     Falls(u32),
+    // A record too short for all rounds that there may be.
     Record,
+    // A buyer who is not there.
     Buyer,
+    // A buffer too short for what is written.
     Room,
 }
 
