@@ -1,46 +1,62 @@
--- The ways out of reading a sheet whole: refused by the first line, refused by the lines, accepted.
-use mathlib.Core.Path.{◌≡◌, sym, ap, ◌∙◌}
+-- The ways out of reading a sheet whole: refused, by the first line or by the lines, and accepted; and what the answers
+-- say of the sheet's fault.
+use mathlib.Core.Path.{◌≡◌, refl, sym, ap, ◌∙◌}
+use mathlib.Core.Bool.{false}
 use mathlib.Core.List.{List}
 use Prim.Native.Nat.{ℕ}
 use native.Mathlib.Omega.{arith}
 use lib.ListN.{length, get_or}
-use borrow.Author.Tests.{eq-eqb, ne_eqb}
+use borrow.Author.Tests.{eq-eqb}
 use Rattle.sheet.specs.declared.Fault.{Fault}
-use Rattle.reading.specs.declared.Head.{Head}
+use Rattle.sheet.specs.declared.Refusal.{Refusal}
+use Rattle.sheet.specs.declared.Refusal.TheVariants.{Short, Head, Buyers, Lots, Length, Malformed, TooLarge, Falls}
+use Rattle.sheet.specs.declared.Refusal.TheVariants.{Record, Buyer, Room}
+use Rattle.sheet.specs.declared.size.Size.{Size}
 use Rattle.sheet.specs.declared.Worths.{Worths}
 use Rattle.sheet.specs.Sheets.{Sheet, as_sheet, worths_in, sheet_of}
-use Rattle.sheet.specs.Questions.{fault, lines_fault, sheet_fault}
-use Rattle.sheet.specs.Answers.{refusal, worths_by, worths_read, sheet_read}
-use Rattle.reading.specs.Steps.{Small, Passed, HeadAsked}
+use Rattle.sheet.specs.Questions.{fault, accepts, lines_fault, sheet_fault}
+use Rattle.sheet.specs.Refusals.{fault_of}
+use Rattle.sheet.specs.Answers.{refusal, refused_worths, worths_by, worths_read, sheet_read}
+use Rattle.reading.specs.Steps.{Small, Passed}
 use Rattle.sheet.proofs.Theorems.{accepted_shape, place_zero}
 
-refusal_is : (f : Fault) (w : Sheet) → (f.number ≡ 0 → ⊥) → refusal f.number f.place ≡ worths_by f w
+pub refused_no : (r : Refusal) → accepts (fault_of r) ≡ false
+refused_no Short = refl
+refused_no Head = refl
+refused_no Buyers = refl
+refused_no Lots = refl
+refused_no Length = refl
+refused_no (Malformed p) = refl
+refused_no (TooLarge p) = refl
+refused_no (Falls p) = refl
+refused_no Record = refl
+refused_no Buyer = refl
+refused_no Room = refl
+
+refusal_is : (r : Refusal) (w : Sheet) → refused_worths r ≡ worths_by (fault_of r) w
 unfolding refusal worths_by
-refusal_is f w h = rw (ne_eqb f.number 0 h)
+refusal_is r w = rw (refused_no r)
 
 module _ (b : List ℕ) where
-  pub refused_head : (h : Head) → HeadAsked b h → (h.number ≡ 0 → ⊥) → (r : Worths) → r ≡ refusal h.number 0 →
-      r ≡ worths_read b
+  pub refused_sheet : (r : Refusal) → sheet_fault b ≡ fault_of r → refused_worths r ≡ worths_read b
   unfolding worths_read
-  refused_head h asked z r e =
-      e ∙ refusal_is (fault h.number 0) (sheet_of b) z ∙ ap (λ g. worths_by g (sheet_of b)) (sym (asked.refused z))
+  refused_sheet r e = refusal_is r (sheet_of b) ∙ ap (λ f. worths_by f (sheet_of b)) (sym e)
 
-  -- the first line passes; ws are the numbers read, g the fault of the lines
-  module _ (h : Head) (p : Passed b h) (ws : List ℕ) (ews : ws ≡ worths_in h.buyers h.lots b) (g : Fault)
-      (eg : g ≡ lines_fault b (as_sheet h.buyers h.lots ws)) where
-    sheet_is : as_sheet h.buyers h.lots ws ≡ sheet_of b
+  -- the first line passes; ws are the numbers read
+  module _ (s : Size) (p : Passed b s) (ws : List ℕ) (ews : ws ≡ worths_in s.buyers s.lots b) where
+    sheet_is : as_sheet s.buyers s.lots ws ≡ sheet_of b
     sheet_is = rw (ews, p.buyers, p.lots)
 
-    fault_is : g ≡ sheet_fault b
-    fault_is = eg ∙ ap (lines_fault b) sheet_is ∙ sym p.rest
+    fault_is : (g : Fault) → g ≡ lines_fault b (as_sheet s.buyers s.lots ws) → sheet_fault b ≡ g
+    fault_is g e = p.rest ∙ sym (e ∙ ap (lines_fault b) sheet_is)
 
-    pub refused_lines : (g.number ≡ 0 → ⊥) → (r : Worths) → r ≡ refusal g.number g.place → r ≡ worths_read b
-    unfolding worths_read
-    refused_lines z r e = e ∙ refusal_is g (sheet_of b) z ∙ ap (λ f. worths_by f (sheet_of b)) fault_is
+    pub refused_lines : (r : Refusal) → fault_of r ≡ lines_fault b (as_sheet s.buyers s.lots ws) →
+        refused_worths r ≡ worths_read b
+    refused_lines r e = refused_sheet r (fault_is (fault_of r) e)
 
-    module _ (z : g.number ≡ 0) where
+    module _ (e : fault 0 0 ≡ lines_fault b (as_sheet s.buyers s.lots ws)) where
       accepted : (sheet_fault b).number ≡ 0
-      accepted = ap (λ (f : Fault). f.number) (sym fault_is) ∙ z
+      accepted = ap (λ (f : Fault). f.number) (fault_is (fault 0 0) e)
 
       worths_are : ws ≡ (sheet_of b).worths
       worths_are = ap (λ (w : Sheet). w.worths) sheet_is
@@ -54,15 +70,15 @@ module _ (b : List ℕ) where
           }
 
       pub accepted_worths : (t : List ℕ) → t ≡ ws →
-          record { number = 0; place = 0; buyers = h.buyers; lots = h.lots; worths = t } ≡ worths_read b
+          record { number = 0; place = 0; buyers = s.buyers; lots = s.lots; worths = t } ≡ worths_read b
       unfolding worths_read worths_by
-      accepted_worths t e =
+      accepted_worths t et =
           rw (
             eq-eqb (sheet_fault b).number 0 accepted,
             accepted,
             place_zero b (omega (arith, accepted)),
             ← worths_are,
-            e,
+            et,
             p.buyers,
             p.lots,
           )

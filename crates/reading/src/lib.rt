@@ -1,90 +1,74 @@
 // Reads a lot sheet: questions 1 to 8, and its worths.
 #![tactic(auto)]
 
-ghost use Rattle.std.specs.Prelude.{◌≡◌, ◌≤◌, length};
-ghost use Rattle.sheet.specs.Questions.{between};
-ghost use Rattle.sheet.specs.Answers.{refusal, sheet_read, worths_read};
-ghost use Rattle.reading.specs.Steps.{Small, HeadRead, HeadAsked};
+ghost use Rattle.std.specs.Prelude.{◌≡◌, false, ◌≤◌, length, MatchResult};
+ghost use Rattle.sheet.specs.Questions.{between, head_good, sheet_fault};
+ghost use Rattle.sheet.specs.Refusals.{fault_of};
+ghost use Rattle.sheet.specs.Answers.{read_as, sheet_read, worths_read};
+ghost use Rattle.reading.specs.Steps.{Small, HeadRead, Passed};
 
-use fields::Field;
-use sheet::{Read, Worths};
+use sheet::{LotSheet, Read, Refusal, Size, Worths};
+use std::array;
 
-// What questions 1 to 5 find: their fault's number, or 0 with the buyers and lots of the first line.
+// The numbers of a first line.
 #[derive(Drop)]
-struct Head {
-    number: u8,
+struct FirstLine {
     buyers: usize,
     lots: usize,
 }
 
-// A first line that question k turns down.
-fn turned_down(k: u8) -> Head
-    ensures { result.number ≡ k }
-{
-    Head {
-        number: k,
-        buyers: 0,
-        lots: 0,
-    }
-}
-
-// Question 2, with the numbers of the first line.
-fn read_head(sheet: &[u8]) -> Head
+// Question 2.
+fn read_head(sheet: &[u8]) -> Result<FirstLine, Refusal>
     requires { 13 ≤ length sheet.now }
-    ensures { HeadRead sheet.now result }
+    ensures { MatchResult result (HeadRead sheet.now)
+        (λ r. (r ≡ Refusal.Head) × (head_good sheet.now ≡ false)) }
 {
     let first = fields::read_field(sheet, 0);
     let second = fields::read_field(sheet, first.next);
-    let buyers = first.field;
-    let lots = second.field;
-    let Field::Number(m) = buyers else {
-        return turned_down(2);
+    let Ok(buyers) = first.field else {
+        return Err(Refusal::Head);
     };
-    let Field::Number(n) = lots else {
-        return turned_down(2);
+    let Ok(lots) = second.field else {
+        return Err(Refusal::Head);
     };
-    if fields::byte_at(sheet, second.next) != 10 {
-        return turned_down(2);
+    if fields::byte_at(sheet, second.next) != b'\n' {
+        return Err(Refusal::Head);
     }
-    Head {
-        number: 0,
-        buyers: m as usize,
-        lots: n as usize,
-    }
+    Ok(FirstLine {
+        buyers: buyers as usize,
+        lots: lots as usize,
+    })
 }
 
 // Whether a number is 1 to k.
 pub fn is_between(k: usize, m: usize) -> bool
     ensures { result ≡ between k m }
 {
-    if m < 1 {
-        return false;
-    }
-    m <= k
+    (1..=k).contains(&m)
 }
 
 // Questions 1 to 5.
-fn ask_head(sheet: &[u8]) -> Head
-    ensures { HeadAsked sheet.now result }
+fn ask_head(sheet: &[u8]) -> Result<Size, Refusal>
+    ensures { MatchResult result (Passed sheet.now) (λ r. sheet_fault sheet.now ≡ fault_of r) }
 {
     let len = sheet.len();
     if len < 13 {
-        return turned_down(1);
+        return Err(Refusal::Short);
     }
-    let head = read_head(sheet);
-    if head.number != 0 {
-        return head;
-    }
+    let head = read_head(sheet)?;
     if !is_between(6, head.buyers) {
-        return turned_down(3);
+        return Err(Refusal::Buyers);
     }
     if !is_between(4, head.lots) {
-        return turned_down(4);
+        return Err(Refusal::Lots);
     }
     if len != 13 + head.buyers * lines::line_length(head.lots) {
-        return turned_down(5);
+        return Err(Refusal::Length);
     }
-    head
+    Ok(Size {
+        buyers: head.buyers,
+        lots: head.lots,
+    })
 }
 
 // The numbers as worths, each small enough.
@@ -92,48 +76,38 @@ fn narrowed(numbers: &[u32; 96]) -> [u16; 96]
     requires { Small numbers.now }
     ensures { result ≡ numbers.now }
 {
-    let mut t = [0u16; 96];
-    let mut k: usize = 0;
-    while k < 96 {
-        t[k] = numbers[k] as u16;
-        k += 1;
-    }
-    t
+    array::from_fn(|k| numbers[k] as u16)
 }
 
-fn refused(number: u8, place: u32) -> Worths
-    ensures { result ≡ refusal number place }
+// Asks questions 1 to 8.
+pub fn read(sheet: &[u8]) -> Result<LotSheet, Refusal>
+    ensures { read_as result ≡ worths_read sheet.now }
 {
-    Worths {
-        number,
-        place,
-        buyers: 0,
-        lots: 0,
-        worths: [0; 96],
-    }
+    let size = ask_head(sheet)?;
+    let numbers = lines::read_numbers(sheet, size);
+    lines::ask_lines(sheet, &numbers, size)?;
+    Ok(LotSheet {
+        size,
+        worths: narrowed(&numbers),
+    })
 }
 
 // Asks questions 1 to 8: a refusal's number and place, or the buyers, lots and worths of an accepted sheet.
 pub fn read_worths(sheet: &[u8]) -> Worths
     ensures { result ≡ worths_read sheet.now }
 {
-    let head = ask_head(sheet);
-    if head.number != 0 {
-        return refused(head.number, 0);
-    }
-    let m = head.buyers;
-    let n = head.lots;
-    let numbers = lines::read_numbers(sheet, m, n);
-    let fault = lines::ask_lines(sheet, &numbers, m, n);
-    if fault.number != 0 {
-        return refused(fault.number, fault.place);
-    }
-    Worths {
-        number: 0,
-        place: 0,
-        buyers: m as u8,
-        lots: n as u8,
-        worths: narrowed(&numbers),
+    match read(sheet) {
+        Ok(accepted) => {
+            let worths = accepted.worths;
+            Worths {
+                number: 0,
+                place: 0,
+                buyers: accepted.size.buyers as u8,
+                lots: accepted.size.lots as u8,
+                worths,
+            }
+        }
+        Err(refusal) => Worths::from(refusal),
     }
 }
 
@@ -141,11 +115,13 @@ pub fn read_worths(sheet: &[u8]) -> Worths
 pub fn read_sheet(sheet: &[u8]) -> Read
     ensures { result ≡ sheet_read sheet.now }
 {
-    let w = read_worths(sheet);
-    Read {
-        number: w.number,
-        place: w.place,
-        buyers: w.buyers,
-        lots: w.lots,
+    match read(sheet) {
+        Ok(LotSheet { size, .. }) => Read {
+            number: 0,
+            place: 0,
+            buyers: size.buyers as u8,
+            lots: size.lots as u8,
+        },
+        Err(refusal) => Read::from(refusal),
     }
 }
