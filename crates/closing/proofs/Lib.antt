@@ -1,5 +1,4 @@
 -- The closing whole (Closings); what closes an economy, and what it supplies (Supplies); the first word that closes it
 -- (Firsts).
-pub mod Firsts
 pub mod Closings
 pub mod Supplies

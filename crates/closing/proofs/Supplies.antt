@@ -3,13 +3,15 @@
 -- is "demanded". Prices are settled where the code finds a word for each economy (`settled_found`).
 use mathlib.Core.Path.{◌≡◌, refl, sym, ap, ap₂, ◌∙◌}
 use mathlib.Core.Bool.{Bool, true, false, not, ◌&&◌, ◌||◌, and_assoc, and_comm, or-true}
-use mathlib.Core.List.{List}
+use mathlib.Core.List.{List, [], ◌∷◌}
 use Prim.Native.Nat.{ℕ, zero, suc, ◌+◌, ◌≤◌}
 use native.Mathlib.Omega.{arith}
 use native.Mathlib.Decide.{ℕ_discrete}
 use lib.Dec.{eqb, leb, eqb-suc-zero}
 use lib.ListN.{length, get_or}
 use borrow.Author.Tests.{eqb-true, eq-eqb, ne_eqb, le-leb, lt-leb}
+use Rattle.std.specs.List.{find}
+use Rattle.std.specs.Option.{is_some}
 use Rattle.theory.specs.Lists.{◌∈◌, most}
 use Rattle.theory.specs.Tests.{◌⊃◌, every, some}
 use Rattle.theory.specs.Markets.{total}
@@ -92,7 +94,7 @@ module _ (O : Offer) (regular : Regular O) (ps : List ℕ) (e : ℕ) (in_range :
     abbrev passes : ℕ → Bool
     passes = economy_closes O.low O.buyers sets ps e T
 
-    word_passes : (a : List ℕ) → a ∈ O.lists →
+    pub word_passes : (a : List ℕ) → a ∈ O.lists →
         passes (word_of O.share a)
         ≡ ((eqb e 0 || lacks e a) && (served a && leb T (total (market O) (price_at O ps) a)))
     word_passes a m =
@@ -106,7 +108,7 @@ module _ (O : Offer) (regular : Regular O) (ps : List ℕ) (e : ℕ) (in_range :
         (ap (leb T) (total_word O packed a m ps)))
 
     -- nothing brings more than the revenue
-    brought : (a : List ℕ) → a ∈ economy O e →
+    pub brought : (a : List ℕ) → a ∈ economy O e →
         (served a && leb T (total (market O) (price_at O ps) a))
         ≡ closes (market O) (quote O ps) (λ i. present_in e i && is_keen O ps i) (economy O e) a
     brought a m =
@@ -129,7 +131,7 @@ pub sets_long : (low m all : ℕ) (ws ps sets : List ℕ) → sets ≡ demand_se
 unfolding demand_sets
 sets_long low m all ws ps sets e = ap length e ∙ tabulate-length 7 0 (demand_at low m all ws ps)
 
-sets_found : (O : Offer) (ps : List ℕ) → Packed O → (i : ℕ) → Bids O i →
+pub sets_found : (O : Offer) (ps : List ℕ) → Packed O → (i : ℕ) → Bids O i →
     get_or (demand_sets O.low O.buyers O.bundles O.worths ps) i 0 ≡ demand_set O ps i
 unfolding demand_sets
 sets_found O ps packed i r =
@@ -179,3 +181,8 @@ none_closes low m sets ps e T l none =
           (inside, (rest.0, omega arith)),
     )) none)
     (λ t. t)
+
+-- a search for a word finds one exactly if some word passes
+pub some_found : (t : ℕ → Bool) (l : List ℕ) → is_some (find t l) ≡ some t l
+some_found t [] = refl
+some_found t (w ∷ l) = by_test (t w) (λ e. rw e refl) (λ e. rw e (some_found t l))

@@ -1,8 +1,8 @@
 -- By words, for an economy: whether every bidder present demands what it owns, whether a word closes it (for that of
 -- all bidders, the sale), and whether some word does.
-use Rattle.std.specs.Prelude.{◌≡◌, Bool, ◌&&◌, List, ℕ, ltb, leb, length, get_or}
+use Rattle.std.specs.Prelude.{Bool, ◌&&◌, List, ℕ, leb, get_or}
 use Rattle.theory.specs.Sums.{when}
-use Rattle.theory.specs.Lists.{most, first, tabulate}
+use Rattle.theory.specs.Lists.{most, tabulate}
 use Rattle.theory.specs.Tests.{◌⊃◌, every, some}
 use Rattle.numbers.specs.Numbers.{bit}
 use Rattle.owners.specs.Prices.{bidders, demand_set}
@@ -32,8 +32,3 @@ economy_closes low m sets ps e T w = word_in e w && (present_served low m sets e
 -- some word of the list l does, and brings the revenue
 abbrev pub word_supplied : ℕ → ℕ → List ℕ → List ℕ → List ℕ → ℕ → Bool
 word_supplied low m sets ps l e = some (economy_closes low m sets ps e (most (word_total_in low m ps e) l)) l
-
--- at place k stands the first number that passes; if none does, k is past the list
-pub record FirstAt (t : ℕ → Bool) (l : List ℕ) (k : ℕ) : Type 0 where
-  pub word : get_or l k 0 ≡ first t 0 l
-  pub found : ltb k (length l) ≡ some t l

@@ -1,16 +1,14 @@
 -- `closing::are_settled` meets its contract.
-use Rattle.std.proofs.Common.{◌≡◌, ◌∙◌, length, arith}
-use Rattle.closing.proofs.Supplies.{sets_long, settled_found}
+use Rattle.std.proofs.Common.{◌∙◌}
+use Rattle.closing.proofs.Supplies.{settled_found}
 use Rattle.closing.proofs.are_settled.Goals as goal
-
-pub all_supplied-requires : goal.all_supplied-requires
-all_supplied-requires c =
-    let long : length c.demand_sets-sets.result ≡ 7 = sets_long _ _ _ _ _ _ c.demand_sets-sets.ensures in
-    (c.requires.0, c.requires.1, omega arith, c.requires.4)
 
 pub returns : goal.returns
 returns c O lent =
-    let z = c.args in
-    let d = c.demand_sets-sets in
+    let market = c.args.market.now in
+    let quotes = market.quotes in
+    let d = c.demands in
     c.all_supplied.ensures
-    ∙ settled_found O z.list.now z.worths.now z.prices.now z.low z.buyers z.bundles lent d.result d.ensures
+    ∙ rw (d.ensures.1, d.ensures.2)
+    (settled_found O c.args.list.now quotes.worths.now quotes.prices.now market.bidders.low market.bidders.buyers
+    quotes.bundles lent d.result.sets d.ensures.0)

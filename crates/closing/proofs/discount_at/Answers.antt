@@ -5,4 +5,6 @@ use Rattle.closing.specs.Closings.{discount_by}
 use Rattle.closing.proofs.discount_at.Goals as goal
 
 pub returns : goal.returns
-returns c = c.less.ensures ∙ sym (place_taken c.args.buyers (discount_by c.args.revenues) c.args.k (omega arith))
+returns c =
+    c.saturating_sub.ensures
+    ∙ sym (place_taken c.args.buyers (discount_by c.args.revenues) c.args.k (omega arith))

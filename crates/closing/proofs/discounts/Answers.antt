@@ -1,8 +1,12 @@
-use Rattle.std.proofs.Common.{arith}
-use Rattle.theory.proofs.Loops.{filled_all}
-use Rattle.offers.specs.Places.{per_buyer}
+-- `closing::discounts` meets its contract.
+use Rattle.std.proofs.Common.{rules}
+use Rattle.theory.proofs.Arrays.{made_by}
+use Rattle.offers.specs.Places.{at_place, per_buyer}
+use Rattle.closing.specs.Closings.{discount_by}
 use Rattle.closing.proofs.discounts.Goals as goal
 
 pub returns : goal.returns
 unfolding per_buyer
-returns c = filled_all _ 6 c.loop-k.k _ (omega arith) c.loop-k.invariant
+returns c =
+    made_by _ (at_place c.args.buyers (discount_by c.args.revenues)) 6 _ (λ i y d h call. search rules) _
+    c.from_fn.ensures.items
