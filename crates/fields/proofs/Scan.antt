@@ -10,11 +10,11 @@ use native.Mathlib.Omega.{arith}
 use native.Mathlib.Decide.{ℕ_discrete, dec_le}
 use lib.Dec.{ltb, lit<}
 use lib.ListN.{length, take, drop, length-take, length-drop}
-use borrow.Author.Tests.{le-leb, lt-leb, ne_eqb, lt-ltb}
+use borrow.Author.Tests.{le-leb, lt-leb, ne_eqb, lt-ltb, le-ltb}
 use Rattle.theory.specs.Sums.{pick}
 use Rattle.theory.proofs.Tests.{by_test, fails}
 use Rattle.std.specs.Prelude.{Result, Ok, Err}
-use Rattle.fields.specs.Fields.{class_of, digits_from, field_from, is_digit, breaks_rule}
+use Rattle.fields.specs.Fields.{class_of, digits_from, field_from, field_read, is_digit, breaks_rule}
 use Rattle.fields.specs.Fields.Class.{Digit, Foreign}
 
 -- classes of bytes
@@ -148,3 +148,8 @@ few_digits n m v h g = omega (arith, pow-le-pow_right {n = 10} (lit< tt) h)
 -- the six columns of a field
 pub six_long : (s : List ℕ) (at : ℕ) → at + 6 ≤ length s → length (take 6 (drop at s)) ≡ 6
 six_long s at h = simp (length-take, length-drop) (omega arith)
+
+-- what reading a field answers where six bytes are left
+pub six_left : (s : List ℕ) (at : ℕ) (f : Result ℕ ℕ) → at + 6 ≤ length s → f ≡ field_from at (take 6 (drop at s)) →
+    record { next = at + 6; field = f } ≡ field_read s at
+six_left s at f h e = rw (le-ltb (length s) (at + 6) h, e) refl

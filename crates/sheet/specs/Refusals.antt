@@ -1,5 +1,5 @@
--- A refusal as its number and place (`fault_of`), in an answer that may be one (`refused_as`, `told`), and the fault of a
--- question by the place that is wrong, if there is one (`fault_at`).
+-- The number and place of a refusal (`fault_of`), and of an answer that may be one (`refused_as`, `told`); and the fault
+-- of a question by the place that is wrong, if there is one (`fault_at`).
 use Rattle.std.specs.Prelude.{ℕ, Option, Some, None, Result, Ok, Err}
 use Rattle.sheet.specs.declared.Fault.{Fault}
 use Rattle.sheet.specs.declared.Refusal.{Refusal}

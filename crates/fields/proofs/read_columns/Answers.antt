@@ -24,7 +24,8 @@ told j =
       | in-48+then-is_none w ↦
           w.breaks-is ∙ sym (rule_zero f a b true w.in-48.is (rw (w.is_none.ensures, w.if-is_none.true)))
       | in-48+else-is_none w ↦
-          w.breaks-is ∙ w.if-is_none.false ∙ sym (rule_zero f a b false w.in-48.is (rw (w.is_none.ensures, w.if-is_none.false)))
+          w.breaks-is ∙ w.if-is_none.false
+          ∙ sym (rule_zero f a b false w.in-48.is (rw (w.is_none.ensures, w.if-is_none.false)))
       | in-49-to-57 w ↦ w.breaks-is ∙ sym (rule_digit f a b (omega arith) (omega arith))
       | in_default w ↦ w.breaks-is ∙ sym (rule_foreign f a b (class_low b (omega arith) (λ z. omega arith)))
       | in_default-2 w ↦ w.breaks-is ∙ sym (rule_foreign f a b (class_high b (omega arith)))
