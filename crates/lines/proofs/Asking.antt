@@ -30,7 +30,8 @@ place_fault q n (suc k) = refl
 abbrev Asked : ℕ → ℕ → ℕ → Option ℕ → Type 0
 Asked q n x o = fault_at (suc q) o ≡ ask_each (suc q) n x (λ _. fault 0 0)
 
-refused_by : (q n x p : ℕ) (rest : Unit {0} → Fault) → Asked q n x (Some p) → fault (suc q) p ≡ ask_each (suc q) n x rest
+refused_by : (q n x p : ℕ) (rest : Unit {0} → Fault) → Asked q n x (Some p) →
+    fault (suc q) p ≡ ask_each (suc q) n x rest
 refused_by q n zero p rest e = absurd (let z : suc q ≡ 0 = ap (λ (f : Fault). f.number) e in omega arith)
 refused_by q n (suc k) p rest e = e
 

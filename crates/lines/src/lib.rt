@@ -11,6 +11,7 @@ ghost use Rattle.lines.specs.Places.{first_place};
 
 use numbers::{has, power};
 use sheet::{Refusal, Size};
+use std::array;
 
 // The bundles of so many lots, the empty one among them.
 pub fn bundles(lots: usize) -> usize
@@ -60,11 +61,7 @@ fn worth_place(sheet: &[u8], size: Size, k: usize) -> u32
 pub fn read_numbers(sheet: &[u8], size: Size) -> [u32; 96]
     ensures { result ≡ worths_in size.buyers size.lots sheet.now }
 {
-    let mut numbers = [0; 96];
-    for k in 0..96 {
-        numbers[k] = worth_place(sheet, size, k);
-    }
-    numbers
+    array::from_fn(|k| worth_place(sheet, size, k))
 }
 
 // Question 6 at one place: a faulty field or line end.
