@@ -1,5 +1,5 @@
--- The word that closes the economy of all bidders (`closes_sale`), the revenues and the charges that the code finds make
--- up the closing (`closing_is`).
+-- The word that closes the economy of all bidders, the revenues and the charges that the code finds make up the closing
+-- (`closing_is`).
 use mathlib.Core.Path.{◌≡◌, refl, ap, ap₂, ◌∙◌}
 use mathlib.Core.List.{List}
 use Prim.Native.Nat.{ℕ, suc, ◌-◌, ◌≤◌, ◌<◌}

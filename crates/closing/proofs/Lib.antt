@@ -1,4 +1,3 @@
--- The closing whole (Closings); what closes an economy, and what it supplies (Supplies); the first word that closes it
--- (Firsts).
+-- The closing whole (Closings); what closes an economy, and what it supplies (Supplies).
 pub mod Closings
 pub mod Supplies

@@ -1,7 +1,6 @@
--- One law for each way through a loop: over the bidders (`bidders-sum`; `each_total` where all have one bundle), over
--- the buyers that own something, from the last down (`set_with`, `set-without`, `set_all`), over words into the values
--- of sets (`values_rise`, `values_stay`), over economies (`raise_here`, `raise_not`), and over words into the greatest
--- totals of all economies (`Reached`).
+-- Laws of loops: over the bidders (`bidders-sum`; `each_total` where all have one bundle), over the buyers that own
+-- something (`holders_are`), over words into the values of sets (`value_raised`), over economies (`raised_to`), and over
+-- words into the greatest totals of all economies (`Reached`).
 use mathlib.Core.Path.{◌≡◌, refl, sym, ap, ◌∙◌}
 use mathlib.Core.Bool.{Bool}
 use mathlib.Core.List.{List}

@@ -8,6 +8,7 @@ returns c =
     let t = c.args.table.now in
     record {
       is = c.total_of.ensures.is
-          ∙ each_total t.bidders.low t.bidders.buyers c.args.bundles t.numbers.now (search rules) (search rules) (omega arith);
+          ∙ each_total t.bidders.low t.bidders.buyers c.args.bundles t.numbers.now (search rules) (search rules)
+          (omega arith);
       most = c.total_of.ensures.most;
     }

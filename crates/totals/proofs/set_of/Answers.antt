@@ -32,7 +32,8 @@ loop-i-preserved c =
           gathered_in owns z.buyers l.i l.set _ l.invariant c.loop-i-test.true true
           (owned _ _ bundle w.if-bundle-ne0.true) _ refl w.power-set.result w.power-set.ensures.is w.set-is
       | else-bundle-ne0 w ↦
-          gathered_out owns z.buyers l.i l.set _ l.invariant c.loop-i-test.true false (free _ _ bundle w.if-bundle-ne0.false) _ refl w.set-is
+          gathered_out owns z.buyers l.i l.set _ l.invariant c.loop-i-test.true false
+          (free _ _ bundle w.if-bundle-ne0.false) _ refl w.set-is
     ]
 
 pub returns : goal.returns

@@ -18,6 +18,6 @@ loop-i-preserved c =
     let i = c.loop-i.i in
     let e = c.entry-total in (
       omega (arith, e.ensures.most),
-      sum_more (t.bidders.buyers + 1) i (omega arith) (λ i. entry t.numbers.now i (digit i c.args.word)) c.loop-i.total _ _
-          c.loop-i.invariant.1 (omega (arith, e.ensures.is, ap (entry t.numbers.now i) c.digit_of.ensures.is)),
+      sum_more (t.bidders.buyers + 1) i (omega arith) (λ i. entry t.numbers.now i (digit i c.args.word)) c.loop-i.total _
+          _ c.loop-i.invariant.1 (omega (arith, e.ensures.is, ap (entry t.numbers.now i) c.digit_of.ensures.is)),
     )
