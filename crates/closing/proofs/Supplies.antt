@@ -8,7 +8,7 @@ use Prim.Native.Nat.{ℕ, zero, suc, ◌+◌, ◌≤◌}
 use native.Mathlib.Omega.{arith}
 use native.Mathlib.Decide.{ℕ_discrete}
 use lib.Dec.{eqb, leb, eqb-suc-zero}
-use lib.ListN.{length, get_or}
+use lib.ListN.{get_or}
 use borrow.Author.Tests.{eqb-true, eq-eqb, ne_eqb, le-leb, lt-leb}
 use Rattle.std.specs.List.{find}
 use Rattle.std.specs.Option.{is_some}
@@ -18,7 +18,7 @@ use Rattle.theory.specs.Markets.{total}
 use Rattle.theory.specs.Auction.{closes, supplied}
 use Rattle.theory.proofs.Tests.{every_same, every_both, every_means, some_same, some-map, some_means, same_test, itself}
 use Rattle.theory.proofs.Tests.{by_test, fails, and_means, leb_means}
-use Rattle.theory.proofs.Lists.{most_upper, some-when, tabulate-length}
+use Rattle.theory.proofs.Lists.{most_upper, some-when}
 use Rattle.theory.proofs.Loops.{filled_tabulate}
 use Rattle.numbers.specs.Numbers.{bit}
 use Rattle.owners.specs.Owners.{lacks}
@@ -127,10 +127,6 @@ module _ (O : Offer) (regular : Regular O) (ps : List ℕ) (e : ℕ) (in_range :
         ∙ some_same _ _ (economy O e) brought
 
 -- the demand sets that the code finds
-pub sets_long : (low m all : ℕ) (ws ps sets : List ℕ) → sets ≡ demand_sets low m all ws ps → length sets ≡ 7
-unfolding demand_sets
-sets_long low m all ws ps sets e = ap length e ∙ tabulate-length 7 0 (demand_at low m all ws ps)
-
 pub sets_found : (O : Offer) (ps : List ℕ) → Packed O → (i : ℕ) → Bids O i →
     get_or (demand_sets O.low O.buyers O.bundles O.worths ps) i 0 ≡ demand_set O ps i
 unfolding demand_sets
