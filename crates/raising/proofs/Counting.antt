@@ -1,6 +1,6 @@
 -- Members counted: of two sets (`common_is`), and of a set in an economy (`common_present`). Offers what a payoff
 -- (`Lowered`), a gain (`Gained`) and a revenue (`Raised`) are after a round.
-use mathlib.Core.Path.{◌≡◌, refl, sym, ap, ◌∙◌}
+use mathlib.Core.Path.{◌≡◌, refl, ap, ◌∙◌}
 use mathlib.Core.Bool.{Bool, true, false, not, ◌&&◌}
 use mathlib.Core.List.{List}
 use Prim.Native.Nat.{ℕ, zero, suc, ◌+◌, ◌-◌, ◌/◌, ◌^◌, ◌≤◌, ◌<◌}
@@ -9,9 +9,10 @@ use native.Mathlib.Decide.{dec_lt}
 use lib.Bits.{bit_and, and_le_r}
 use lib.Dec.{eqb}
 use lib.Count.{ones, ones_in, ones_step}
+use Rattle.std.specs.Int.{from_bool}
 use Rattle.theory.specs.Sums.{when, sum}
 use Rattle.theory.specs.Kept.{shared, around}
-use Rattle.theory.proofs.Sums.{sum_same, sum-shift}
+use Rattle.theory.proofs.Sums.{sum_same, sum-shift, when_one}
 use Rattle.theory.proofs.Loops.{Revised}
 use Rattle.numbers.specs.Numbers.{bit}
 use Rattle.numbers.proofs.Subsets.{bit_half, one_bit}
@@ -21,6 +22,15 @@ use Rattle.owners.specs.Singles.{AtMost}
 use Rattle.supply.specs.Supply.{at, NextPayoffs}
 use Rattle.supply.proofs.Words.{bit_and_lem, alike, alike_same, tried}
 use Rattle.raising.specs.Raising.{AllBut}
+
+-- a test as a number
+pub one_if : (b : Bool) → from_bool b ≡ when b 1
+one_if true = refl
+one_if false = refl
+
+pub one_most : (b : Bool) → from_bool b ≤ 1
+one_most true = omega arith
+one_most false = omega arith
 
 -- a number's ones are its bits
 ones_sum : (m n : ℕ) → n < 2 ^ m → ones n ≡ sum m 1 (λ i. when (bit (i - 1) n) 1)
@@ -64,12 +74,6 @@ module _ (ps : List ℕ) (x : ℕ) where
   abbrev pub Lowered : ℕ → ℕ → Type 0
   Lowered i v = v ≡ at ps i - when (member x (i + 1)) 1
 
-  pub lowered_in : (i v : ℕ) (b : Bool) → b ≡ member x (i + 1) → b ≡ true → v ≡ at ps i - 1 → Lowered i v
-  lowered_in i v b eb p ev = let q : member x (i + 1) ≡ true = sym eb ∙ p in rw q ev
-
-  pub lowered_out : (i v : ℕ) (b : Bool) → b ≡ member x (i + 1) → b ≡ false → v ≡ at ps i → Lowered i v
-  lowered_out i v b eb p ev = let q : member x (i + 1) ≡ false = sym eb ∙ p in rw q (omega arith)
-
   module _ (m k : ℕ) (r : List ℕ) (so_far : Revised Lowered 6 ps k r) where
     pub lowered_small : AtMost 9999 ps → AtMost 9999 r
     lowered_small small j =
@@ -92,11 +96,6 @@ module _ (m : ℕ) (rs words : List ℕ) (x : ℕ) where
   abbrev pub Raised : ℕ → ℕ → Type 0
   Raised e v = v + when (not (bit x (at words e))) 1 ≡ at rs e + around (roster m) (present_in e) x
 
-  module _
-      (e v up : ℕ) (eu : up ≡ at rs e + around (roster m) (present_in e) x) (b : Bool)
-      (eb : b ≡ bit x (at words e)) where
-    pub raised_in : b ≡ true → v ≡ up → Raised e v
-    raised_in p ev = let q : bit x (at words e) ≡ true = sym eb ∙ p in rw q (omega arith)
-
-    pub raised_out : b ≡ false → 1 ≤ up → v ≡ up - 1 → Raised e v
-    raised_out p some ev = let q : bit x (at words e) ≡ false = sym eb ∙ p in rw q (omega arith)
+  pub raised : (e up less : ℕ) → up ≡ at rs e + around (roster m) (present_in e) x →
+      less ≡ when (not (bit x (at words e))) 1 → 1 ≤ up → Raised e (up - less)
+  raised e up less eu el some = omega (arith, when_one (not (bit x (at words e))))

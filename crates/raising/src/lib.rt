@@ -1,85 +1,76 @@
 // What buyers have left of their worths at prices, and the raise of a round: of prices, and of what a sale keeps.
 #![tactic(auto)]
 
-ghost use Rattle.std.specs.Prelude.{◌≡◌, ℕ, ◌^◌, ◌≤◌, ◌<◌, length};
-ghost use Rattle.numbers.specs.Numbers.{Is};
+ghost use Rattle.std.specs.Prelude.{◌≡◌, ℕ, ◌-◌, ◌^◌, ◌≤◌, ◌<◌, length};
 ghost use Rattle.owners.specs.Owners.{member};
 ghost use Rattle.owners.specs.Prices.{buyer_rows};
 ghost use Rattle.owners.specs.Quick.{left, raised_by};
 ghost use Rattle.owners.specs.Singles.{worth_table, AtMost};
+ghost use Rattle.numbers.specs.Numbers.{Is};
 ghost use Rattle.supply.specs.Supply.{payoff_at, NextPayoffs, NextGains, NextRevenues, KeenMembers, SmallGains};
 ghost use Rattle.supply.specs.Supply.{SmallRevenues};
 ghost use Rattle.raising.specs.Raising.{Rows, raised_row, Common, AllBut};
 
-use numbers::{has, power, wide};
-use supply::is_member;
+use numbers::{has, power};
+use supply::{Economies, is_member, sets_of};
 
-// What buyer i has left of its worth of all lots, whose bundle is `top`.
-fn payoff(worths: &[u16], prices: &[u16], i: usize, top: usize) -> u32
-    requires { (1 ≤ i) × (i ≤ 6) × (1 ≤ top) × (top ≤ 15) × Rows worths.now × Rows prices.now
-        × AtMost 9999 worths.now }
-    ensures { Is (left (buyer_rows 6) (worth_table worths.now) top prices.now i) result 9999 }
-{
-    let at = 16 * (i - 1) + top;
-    let w = wide(worths[at]);
-    let p = wide(prices[at]);
-    if p < w { w - p } else { 0 }
+// Worths, lent: six rows of sixteen numbers, of which a buyer's row has as many as there are bundles.
+#[derive(Clone, Copy)]
+pub struct Valuations<'a> {
+    pub worths: &'a [u16],
+    pub bundles: usize,
+    pub ghost whole: { (1 ≤ bundles) × (bundles ≤ 16) × Rows worths.now },
 }
 
-// What each buyer has left; places of absent buyers hold 0.
-pub fn payoffs(worths: &[u16], prices: &[u16], buyers: usize, top: usize) -> [u32; 6]
-    requires { (buyers ≤ 6) × (1 ≤ top) × (top ≤ 15) × Rows worths.now × Rows prices.now
-        × AtMost 9999 worths.now }
-    ensures { AtMost 9999 result × ((i : ℕ) → 1 ≤ i → i ≤ buyers →
-        payoff_at result i ≡ left (buyer_rows 6) (worth_table worths.now) top prices.now i) }
-{
-    let mut left = [0u32; 6];
-    let mut i: usize = 0;
-    while i < buyers {
-        left[i] = payoff(worths, prices, i + 1, top);
-        i += 1;
+impl Valuations<'_> {
+    // What buyer i has left of its worth of all lots, whose bundle is the last.
+    fn payoff(&self, prices: &[u16], i: usize) -> u32
+        requires { (1 ≤ i) × (i ≤ 6) × (2 ≤ self.now.bundles) × Rows prices.now × AtMost 9999 self.now.worths.now }
+        ensures { Is (left (buyer_rows 6) (worth_table self.now.worths.now) (self.now.bundles - 1) prices.now i)
+            result 9999 }
+    {
+        let at = 16 * (i - 1) + (self.bundles - 1);
+        u32::from(self.worths[at].saturating_sub(prices[at]))
     }
-    left
-}
 
-// Raises the prices of buyer i, which has so much left, for the bundles that it demands.
-fn raise_row(worths: &[u16], prices: &mut [u16], i: usize, bundles: usize, left: u32)
-    requires { (1 ≤ i) × (i ≤ 6) × (1 ≤ bundles) × (bundles ≤ 16) × Rows worths.now × Rows prices.old
-        × AtMost 60001 prices.old }
-    ensures { prices.new ≡ raised_row bundles worths.now i left prices.old }
-{
-    let mut s: usize = 1;
-    while s < bundles {
-        let at = 16 * (i - 1) + s;
-        let p = prices[at];
-        let next = if left <= wide(worths[at]) { p + 1 } else { p };
-        prices[at] = next;
-        s += 1;
-    }
-}
-
-// Raises the prices of each member for the bundles that it demands (rule 4.11).
-pub fn raise(
-    worths: &[u16],
-    payoffs: &[u32; 6],
-    prices: &mut [u16],
-    buyers: usize,
-    bundles: usize,
-    set: usize,
-)
-    requires { (buyers ≤ 6) × (1 ≤ bundles) × (bundles ≤ 16) × Rows worths.now × Rows prices.old
-        × AtMost 60000 prices.old }
-    ensures { prices.new
-        ≡ raised_by (buyer_rows buyers) bundles (worth_table worths.now) (member set)
-        (payoff_at payoffs.now)
-        prices.old }
-{
-    let mut i: usize = 1;
-    while i <= buyers {
-        if is_member(set, i) {
-            raise_row(worths, prices, i, bundles, payoffs[i - 1]);
+    // What each buyer has left; places of absent buyers hold 0.
+    pub fn payoffs(&self, prices: &[u16], buyers: usize) -> [u32; 6]
+        requires { (buyers ≤ 6) × (2 ≤ self.now.bundles) × Rows prices.now × AtMost 9999 self.now.worths.now }
+        ensures { AtMost 9999 result × ((i : ℕ) → 1 ≤ i → i ≤ buyers → payoff_at result i
+            ≡ left (buyer_rows 6) (worth_table self.now.worths.now) (self.now.bundles - 1) prices.now i) }
+    {
+        let mut left = [0; 6];
+        for i in 0..buyers {
+            left[i] = self.payoff(prices, i + 1);
         }
-        i += 1;
+        left
+    }
+
+    // Raises the prices of buyer i, which has so much left, for the bundles that it demands.
+    fn raise_row(&self, prices: &mut [u16], i: usize, left: u32)
+        requires { (1 ≤ i) × (i ≤ 6) × Rows prices.old × AtMost 60001 prices.old }
+        ensures { prices.new ≡ raised_row self.now.bundles self.now.worths.now i left prices.old }
+    {
+        for s in 1..self.bundles {
+            let at = 16 * (i - 1) + s;
+            let worth = u32::from(self.worths[at]);
+            prices[at] += u16::from(left <= worth);
+        }
+    }
+
+    // Raises the prices of each member for the bundles that it demands (rule 4.11).
+    pub fn raise(&self, payoffs: &[u32; 6], prices: &mut [u16], buyers: usize, set: usize)
+        requires { (buyers ≤ 6) × Rows prices.old × AtMost 60000 prices.old }
+        ensures { prices.new
+            ≡ raised_by (buyer_rows buyers) self.now.bundles (worth_table self.now.worths.now) (member set)
+            (payoff_at payoffs.now)
+            prices.old }
+    {
+        for i in 1..buyers + 1 {
+            if is_member(set, i) {
+                self.raise_row(prices, i, payoffs[i - 1]);
+            }
+        }
     }
 }
 
@@ -90,12 +81,8 @@ pub fn lower_payoffs(payoffs: &mut [u32; 6], buyers: usize, set: usize)
     ensures { (length payoffs.new ≡ 6) × AtMost 9999 payoffs.new
         × NextPayoffs buyers payoffs.old set payoffs.new }
 {
-    let mut i: usize = 0;
-    while i < buyers {
-        let p = payoffs[i];
-        let next = if is_member(set, i + 1) { p - 1 } else { p };
-        payoffs[i] = next;
-        i += 1;
+    for i in 0..buyers {
+        payoffs[i] -= u32::from(is_member(set, i + 1));
     }
 }
 
@@ -104,20 +91,17 @@ fn common(set: usize, other: usize) -> u32
     requires { set < 64 }
     ensures { Common set other result }
 {
-    u32::count_ones((other & set) as u32)
+    ((other & set) as u32).count_ones()
 }
 
 // Adds to each set's gain how many members of the raised set it has.
-pub fn raise_gains(gains: &mut [u32; 64], buyers: usize, sets: usize, set: usize)
-    requires { (buyers ≤ 6) × Is (2 ^ buyers) sets 64 × (set < 2 ^ buyers) × (length gains.old ≡ 64)
-        × SmallGains buyers gains.old }
+pub fn raise_gains(gains: &mut [u32; 64], buyers: usize, set: usize)
+    requires { (buyers ≤ 6) × (set < 2 ^ buyers) × (length gains.old ≡ 64) × SmallGains buyers gains.old }
     ensures { (length gains.new ≡ 64)
         × NextGains buyers gains.old set gains.new }
 {
-    let mut k: usize = 0;
-    while k < sets {
-        gains[k] = gains[k] + common(set, k);
-        k += 1;
+    for k in 0..sets_of(buyers) {
+        gains[k] += common(set, k);
     }
 }
 
@@ -132,25 +116,14 @@ fn all_but(absent: usize) -> usize
     63 - power(absent - 1)
 }
 
-// Adds to the revenue of each economy, up to that of number `last`, how many members are present, less 1 if its word
-// has not the set.
-pub fn raise_revenues(
-    revenues: &mut [u32; 7],
-    words: &[u64; 7],
-    buyers: usize,
-    last: usize,
-    set: usize,
-)
-    requires { (buyers ≤ 6) × (last ≤ buyers) × (set < 2 ^ buyers) × (length revenues.old ≡ 7)
-        × SmallRevenues last revenues.old }
+// Adds to the revenue of each economy how many members are present, less 1 if its word has not the set.
+pub fn raise_revenues(revenues: &mut [u32; 7], words: &[u64; 7], economies: Economies, set: usize)
+    requires { (set < 2 ^ economies.buyers) × (length revenues.old ≡ 7) × SmallRevenues economies.last revenues.old }
     ensures { (length revenues.new ≡ 7)
-        × NextRevenues buyers last revenues.old words.now set revenues.new }
+        × NextRevenues economies.buyers economies.last revenues.old words.now set revenues.new }
 {
-    let mut e: usize = 0;
-    while e <= last {
+    for e in 0..economies.last + 1 {
         let up = revenues[e] + common(set, all_but(e));
-        let next = if has(words[e], set) { up } else { up - 1 };
-        revenues[e] = next;
-        e += 1;
+        revenues[e] = up - u32::from(!has(words[e], set));
     }
 }

@@ -4,8 +4,9 @@
 use mathlib.Core.Path.{◌≡◌, refl, sym, ap, ◌∙◌}
 use mathlib.Core.Bool.{Bool, true, false, not, ◌&&◌, ◌||◌, and-true, and-false, or-false}
 use mathlib.Core.List.{List}
-use Prim.Native.Nat.{ℕ, suc, max, ◌+◌, ◌-◌, ◌*◌, ◌^◌, ◌≤◌, ◌<◌}
-use native.Mathlib.Nat.{sub-zero}
+use Prim.Native.Nat.{ℕ, zero, suc, max, ◌+◌, ◌-◌, ◌*◌, ◌^◌, ◌≤◌, ◌<◌}
+use native.Mathlib.Nat.{sub-zero, pow-succ'}
+use native.Mathlib.Numerals.{add-one}
 use native.Mathlib.Omega.{arith}
 use native.Mathlib.Decide.{ℕ_discrete}
 use lib.Dec.{leb}
@@ -13,59 +14,49 @@ use lib.Bits.{bit_and, bit_or}
 use lib.ListN.{get_or, set}
 use lib.Pow.{pow_mono}
 use borrow.Author.Tests.{eq-eqb, ne_eqb, le-leb, lt-leb}
-use Rattle.theory.specs.Sums.{when, sum}
-use Rattle.theory.specs.Lists.{most, up_to}
+use Rattle.theory.specs.Sums.{when}
+use Rattle.theory.specs.Lists.{up_to}
 use Rattle.theory.specs.Tests.{every, some, least, ◌⊃◌}
 use Rattle.theory.specs.Markets.{only}
 use Rattle.theory.specs.Coalitions.{inside, covers}
 use Rattle.theory.proofs.Tests.{by_test, least_same, every_same}
-use Rattle.theory.proofs.Loops.{sum_down, some_more, some_done, Revised, revised_set, revised_skip}
+use Rattle.theory.proofs.Loops.{some_more, some_done, Revised, revised_set, revised_skip}
 use Rattle.numbers.specs.Numbers.{bit}
 use Rattle.owners.specs.Owners.{member, number}
 use Rattle.owners.specs.Quick.{present_in, roster}
-use Rattle.owners.proofs.Bits.{number_bit, number_down, number_small}
+use Rattle.owners.proofs.Bits.{number_bit, number_small}
 use Rattle.supply.specs.Supply.{at, payoff_at, Under, reaches, reached, among, Word, Joined, Joins, Supplied}
 use Rattle.supply.specs.Supply.{KeenBuyers, lowest_in}
 use Rattle.supply.proofs.Words.{bit_or_lem, bit_and_lem, bit_ones, bit_zero, among_fewer}
 
 -- what the members of a set have left, with buyer i
-module _
-    (m i k t : ℕ) (ps : List ℕ) (lo : 1 ≤ i) (hi : i ≤ m) (e : t ≡ sum (m - i) (suc i) (only (member k) (payoff_at ps)))
-    (b : Bool) (eb : b ≡ member k i) (t' : ℕ) where
-  more : t + when (member k i) (payoff_at ps i) ≡ sum (m - (i - 1)) (suc (i - 1)) (only (member k) (payoff_at ps))
-  more = sum_down m i t (only (member k) (payoff_at ps)) lo hi e
+module _ (k i t : ℕ) (ps : List ℕ) (b : Bool) (eb : b ≡ member k i) (t' : ℕ) where
+  pub pay_in : b ≡ true → t' ≡ t + get_or ps (i - 1) 0 → t' ≡ t + only (member k) (payoff_at ps) i
+  pay_in p et = let q : member k i ≡ true = sym eb ∙ p in rw (et, q)
 
-  pub pay_in : b ≡ true → t' ≡ t + get_or ps (i - 1) 0 →
-      t' ≡ sum (m - (i - 1)) (suc (i - 1)) (only (member k) (payoff_at ps))
-  pay_in p et = let q : member k i ≡ true = sym eb ∙ p in rw et (rw q at more)
-
-  pub pay_out : b ≡ false → t' ≡ t → t' ≡ sum (m - (i - 1)) (suc (i - 1)) (only (member k) (payoff_at ps))
-  pay_out p et = let q : member k i ≡ false = sym eb ∙ p in omega (arith, rw q at more)
+  pub pay_out : b ≡ false → t' ≡ t → t' ≡ t + only (member k) (payoff_at ps) i
+  pay_out p et = let q : member k i ≡ false = sym eb ∙ p in rw (et, q) (omega arith)
 
 -- the greatest gain in economy e, with set k
-pub most-start : (m sets : ℕ) (f : ℕ → ℕ) → sets ≡ 2 ^ m →
-    max 0 (most f (up_to (sets - 0) 0)) ≡ most f (up_to (2 ^ m) 0)
-most-start m sets f e = rw (sub-zero, e) (omega arith)
+module _ (m : ℕ) (gs : List ℕ) (e : ℕ) where
+  abbrev pub counted : ℕ → ℕ
+  counted k = when (inside (roster m) (present_in e) k) (at gs k)
 
-module _ (m : ℕ) (gs : List ℕ) (e k best best' : ℕ) where
-  abbrev counted : ℕ
-  counted = when (inside (roster m) (present_in e) k) (at gs k)
+  module _ (k best best' : ℕ) where
+    pub best_rises : best < at gs k → (w : Bool) → w ≡ inside (roster m) (present_in e) k → w ≡ true →
+        best' ≡ at gs k → best' ≡ max best (counted k)
+    best_rises h w ew p eb = let q : inside (roster m) (present_in e) k ≡ true = sym ew ∙ p in rw q (omega arith)
 
-  pub best_rises : best < at gs k → (w : Bool) → w ≡ inside (roster m) (present_in e) k → w ≡ true → best' ≡ at gs k →
-      best' ≡ max best counted
-  best_rises h w ew p eb = let q : inside (roster m) (present_in e) k ≡ true = sym ew ∙ p in rw q (omega arith)
+    pub best_outside : (w : Bool) → w ≡ inside (roster m) (present_in e) k → w ≡ false → best' ≡ best →
+        best' ≡ max best (counted k)
+    best_outside w ew p eb = let q : inside (roster m) (present_in e) k ≡ false = sym ew ∙ p in rw q (omega arith)
 
-  pub best_outside : (w : Bool) → w ≡ inside (roster m) (present_in e) k → w ≡ false → best' ≡ best → best'
-      ≡ max best counted
-  best_outside w ew p eb = let q : inside (roster m) (present_in e) k ≡ false = sym ew ∙ p in rw q (omega arith)
-
-  pub best_stays : at gs k ≤ best → best' ≡ best → best' ≡ max best counted
-  best_stays h eb = by_test (inside (roster m) (present_in e) k) (λ q. rw q (omega arith)) (λ q. rw q (omega arith))
+    pub best_stays : at gs k ≤ best → best' ≡ best → best' ≡ max best (counted k)
+    best_stays h eb = by_test (inside (roster m) (present_in e) k) (λ q. rw q (omega arith)) (λ q. rw q (omega arith))
 
 -- the sets that are supplied in economy e, with those that set k covers
-pub reach_start : (m sets n : ℕ) (t : ℕ → Bool) → sets ≡ 2 ^ m → (bit n 0 || some t (up_to (sets - 0) 0))
-    ≡ some t (up_to (2 ^ m) 0)
-reach_start m sets n t e = rw (bit_zero n, sub-zero, e)
+reach_start : (sets n : ℕ) (t : ℕ → Bool) → (bit n 0 || some t (up_to (sets - 0) 0)) ≡ some t (up_to sets 0)
+reach_start sets n t = rw (bit_zero n, sub-zero)
 
 module _ (m g top e n k word word' : ℕ) where
   pub reach_lower : (g ≡ top → ⊥) → word' ≡ word → bit n word' ≡ (bit n word || reaches m g top e n k)
@@ -116,37 +107,37 @@ module _ (m : ℕ) (rs : List ℕ) (g k : ℕ) (old : List ℕ) where
           (ap (λ x. bit_or x s) (so_far.rest e (omega arith)))))
 
 -- the scan of all sets: what each word has, and the sets from k on add
-module _ (m last : ℕ) (gs rs : List ℕ) (sets : ℕ) where
+module _ (m last : ℕ) (gs rs : List ℕ) where
   pub Scanned : ℕ → List ℕ → Type 0
   Scanned k words = (e : ℕ) → e ≤ last → (n : ℕ) → n < 2 ^ m →
-      (bit n (at words e) || some (λ k. reaches m (at gs k) (at rs e) e n k) (up_to (sets - k) k))
+      (bit n (at words e) || some (λ k. reaches m (at gs k) (at rs e) e n k) (up_to (2 ^ m - k) k))
       ≡ reached m gs (at rs e) e n
 
-  pub scan_start : (words : List ℕ) → ((e : ℕ) → at words e ≡ 0) → sets ≡ 2 ^ m → Scanned 0 words
+  pub scan_start : (words : List ℕ) → ((e : ℕ) → at words e ≡ 0) → Scanned 0 words
   unfolding Scanned
-  scan_start words none es e h n l = rw (none e) (reach_start m sets n (λ k. reaches m (at gs k) (at rs e) e n k) es)
+  scan_start words none e h n l = rw (none e) (reach_start (2 ^ m) n (λ k. reaches m (at gs k) (at rs e) e n k))
 
   module _ (k : ℕ) (words words' : List ℕ) (so_far : Scanned k words) where
-    pub scan_more : k < sets → (more : List ℕ) → Joins m last rs (at gs k) k words more → words' ≡ more →
+    pub scan_more : k < 2 ^ m → (more : List ℕ) → Joins m last rs (at gs k) k words more → words' ≡ more →
         Scanned (k + 1) words'
     unfolding Scanned
     scan_more h more joins ew e l n q =
-        some_more sets k h (λ k. reaches m (at gs k) (at rs e) e n k) (bit n (at words e)) (bit n (at words' e)) _
+        some_more (2 ^ m) k h (λ k. reaches m (at gs k) (at rs e) e n k) (bit n (at words e)) (bit n (at words' e)) _
         (so_far e l n q)
         (ap (λ w. bit n (at w e)) ew ∙ joins e l n q)
 
     -- a set that gains less than each revenue adds nothing
-    pub scan_pass : k < sets → (least : ℕ) → Under last rs least → at gs k < least → words' ≡ words →
+    pub scan_pass : k < 2 ^ m → (least : ℕ) → Under last rs least → at gs k < least → words' ≡ words →
         Scanned (k + 1) words'
     scan_pass h least under less ew =
         scan_more h words
         (λ e l n q.
         reach_lower m (at gs k) (at rs e) e n k (at words e) (at words e) (λ z. omega (arith, under e l)) refl) ew
 
-    pub scan_end : sets ≤ k → Supplied m last gs rs words
+    pub scan_end : 2 ^ m ≤ k → Supplied m last gs rs words
     unfolding Scanned
     scan_end h e l n q =
-        some_done sets k h (λ k. reaches m (at gs k) (at rs e) e n k) (bit n (at words e)) _ (so_far e l n q)
+        some_done (2 ^ m) k h (λ k. reaches m (at gs k) (at rs e) e n k) (bit n (at words e)) _ (so_far e l n q)
 
 -- the least of the first revenues
 pub under_more : (rs : List ℕ) (e least least' : ℕ) → ((j : ℕ) → j < e → least ≤ at rs j) → least' ≤ least →
@@ -168,18 +159,41 @@ every_more n word s word' x es e = rw (e, bit_and_lem n word s, es)
 abbrev pub keen : List ℕ → ℕ → Bool
 keen ps i = leb 1 (payoff_at ps i)
 
-module _ (m i set : ℕ) (ps : List ℕ) (lo : 1 ≤ i) (hi : i ≤ m) (e : set ≡ number (m - i) (suc i) (keen ps))
-    (set' : ℕ) where
-  pub keen_in : 1 ≤ payoff_at ps i → set' ≡ 2 * set + 1 → set' ≡ number (m - (i - 1)) (suc (i - 1)) (keen ps)
-  keen_in h es = omega (arith, rw (le-leb 1 (payoff_at ps i) h) at (number_down m i set (keen ps) lo hi e))
+double : (b : Bool) (p : ℕ) → when b (2 * p) ≡ 2 * when b p
+double true p = refl
+double false p = refl
 
-  pub keen_out : payoff_at ps i < 1 → set' ≡ 2 * set → set' ≡ number (m - (i - 1)) (suc (i - 1)) (keen ps)
-  keen_out h es = omega (arith, rw (lt-leb 1 (payoff_at ps i) h) at (number_down m i set (keen ps) lo hi e))
+number_up : (k s : ℕ) (t : ℕ → Bool) → number (suc k) s t ≡ number k s t + when (t (s + k)) (2 ^ k)
+unfolding number
+number_up zero s t = let e : s + 0 ≡ s = omega arith in omega (arith, ap (λ j. when (t j) 1) e)
+number_up (suc k) s t =
+    let e : suc s + k ≡ s + suc k = omega arith in
+    omega (
+      arith,
+      number_up k (suc s) t,
+      ap (λ j. when (t j) (2 ^ k)) e,
+      ap (when (t (s + suc k))) (pow-succ' 2 k),
+      double (t (s + suc k)) (2 ^ k),
+    )
 
-pub keen_all : (m i r : ℕ) (ps : List ℕ) → m ≤ 6 → i ≡ 0 → r ≡ number (m - i) (suc i) (keen ps) → KeenBuyers m ps r
-keen_all m i r ps few z e =
-    let d : m - i ≡ m = omega arith in
-    let all : r ≡ number m 1 (keen ps) = e ∙ rw (d, z) in
+pub keen_none : (ps : List ℕ) → 0 ≡ number 0 1 (keen ps)
+unfolding number
+keen_none ps = refl
+
+module _ (i set : ℕ) (ps : List ℕ) (e : set ≡ number i 1 (keen ps)) (set' : ℕ) where
+  pub keen_in : 1 ≤ at ps i → (p : ℕ) → p ≡ 2 ^ i → set' ≡ set + p → set' ≡ number (i + 1) 1 (keen ps)
+  keen_in h p ep es =
+      let z : 1 + i - 1 ≡ i = omega arith in
+      rw (add-one i) (omega (arith, rw (z, le-leb 1 (at ps i) h) at (number_up i 1 (keen ps))))
+
+  pub keen_out : at ps i < 1 → set' ≡ set → set' ≡ number (i + 1) 1 (keen ps)
+  keen_out h es =
+      let z : 1 + i - 1 ≡ i = omega arith in
+      rw (add-one i) (omega (arith, rw (z, lt-leb 1 (at ps i) h) at (number_up i 1 (keen ps))))
+
+pub keen_all : (m i r : ℕ) (ps : List ℕ) → m ≤ 6 → i ≡ m → r ≡ number i 1 (keen ps) → KeenBuyers m ps r
+keen_all m i r ps few q e =
+    let all : r ≡ number m 1 (keen ps) = e ∙ ap (λ n. number n 1 (keen ps)) q in
     record {
       few = omega (arith, number_small m 1 (keen ps) few);
       is = λ j lo hi.

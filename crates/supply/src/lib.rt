@@ -1,6 +1,5 @@
 // The lowest undersupplied set, by the gains of sets, the revenues of economies and what buyers have left, which a sale
-// keeps from round to round. A set of sets is a word of 64 bits: bit n is for the set of number n. Sets are judged in
-// the economies from 0, that of all, to `last`.
+// keeps from round to round. A set of sets is a word of 64 bits: bit n is for the set of number n.
 #![tactic(auto)]
 
 ghost use Rattle.std.specs.Prelude.{◌≡◌, true, not, ◌&&◌, ◌+◌, ◌^◌, ◌≤◌, ◌<◌, length};
@@ -10,13 +9,34 @@ ghost use Rattle.numbers.specs.Numbers.{Is, bit};
 ghost use Rattle.owners.specs.Owners.{member};
 ghost use Rattle.owners.specs.Quick.{present_in, roster};
 ghost use Rattle.owners.specs.Singles.{AtMost};
-ghost use Rattle.supply.specs.Supply.{at, payoff_at, Gains, greatest, Revenues, Under, Subsets, Joins, Supplied};
-ghost use Rattle.supply.specs.Supply.{Word, KeenBuyers, lowest_in};
+ghost use Rattle.supply.specs.Supply.{at, payoff_at, Gains, greatest, Revenues, Under, Joins, Supplied};
+ghost use Rattle.supply.specs.Supply.{Word, KeenBuyers, among, lowest_in, one_more};
 
 use numbers::{has, power};
 
 // Gains are kept this much higher, so that none is negative: six buyers have at most 59,994 left.
 const SHIFT: u32 = 60000;
+
+// For each set, the word of its subsets.
+#[rattlefmt::skip]
+static SUBSETS: [u64; 64] = [
+    0x0000000000000001, 0x0000000000000003, 0x0000000000000005, 0x000000000000000F,
+    0x0000000000000011, 0x0000000000000033, 0x0000000000000055, 0x00000000000000FF,
+    0x0000000000000101, 0x0000000000000303, 0x0000000000000505, 0x0000000000000F0F,
+    0x0000000000001111, 0x0000000000003333, 0x0000000000005555, 0x000000000000FFFF,
+    0x0000000000010001, 0x0000000000030003, 0x0000000000050005, 0x00000000000F000F,
+    0x0000000000110011, 0x0000000000330033, 0x0000000000550055, 0x0000000000FF00FF,
+    0x0000000001010101, 0x0000000003030303, 0x0000000005050505, 0x000000000F0F0F0F,
+    0x0000000011111111, 0x0000000033333333, 0x0000000055555555, 0x00000000FFFFFFFF,
+    0x0000000100000001, 0x0000000300000003, 0x0000000500000005, 0x0000000F0000000F,
+    0x0000001100000011, 0x0000003300000033, 0x0000005500000055, 0x000000FF000000FF,
+    0x0000010100000101, 0x0000030300000303, 0x0000050500000505, 0x00000F0F00000F0F,
+    0x0000111100001111, 0x0000333300003333, 0x0000555500005555, 0x0000FFFF0000FFFF,
+    0x0001000100010001, 0x0003000300030003, 0x0005000500050005, 0x000F000F000F000F,
+    0x0011001100110011, 0x0033003300330033, 0x0055005500550055, 0x00FF00FF00FF00FF,
+    0x0101010101010101, 0x0303030303030303, 0x0505050505050505, 0x0F0F0F0F0F0F0F0F,
+    0x1111111111111111, 0x3333333333333333, 0x5555555555555555, 0xFFFFFFFFFFFFFFFF,
+];
 
 // The sets of so many buyers, the empty one among them.
 pub fn sets_of(buyers: usize) -> usize
@@ -34,250 +54,38 @@ pub fn is_member(set: usize, i: usize) -> bool
     has(set as u64, i - 1)
 }
 
+// The sets of some of a set's members.
+fn subsets_of(set: usize) -> u64
+    requires { set < 64 }
+    ensures { Word 6 (among 6 set) result }
+{
+    SUBSETS[set]
+}
+
 // What the members of the set k have left.
 fn payoff_of(payoffs: &[u32; 6], buyers: usize, k: usize) -> u32
     requires { (buyers ≤ 6) × AtMost 9999 payoffs.now }
     ensures { Is (payoff_of (roster buyers) (payoff_at payoffs.now) k) result 59994 }
 {
-    let mut total: u32 = 0;
-    let mut i: usize = buyers;
-    while 0 < i {
+    let mut total = 0;
+    for i in 1..buyers + 1 {
         if is_member(k, i) {
             total += payoffs[i - 1];
         }
-        i -= 1;
     }
     total
 }
 
 // What each set's value is above what its members have left.
-pub fn gains(values: &[u32; 64], payoffs: &[u32; 6], buyers: usize, sets: usize) -> [u32; 64]
-    requires { (buyers ≤ 6) × Is (2 ^ buyers) sets 64 × AtMost 9999 payoffs.now × AtMost 59994 values.now }
+pub fn gains(values: &[u32; 64], payoffs: &[u32; 6], buyers: usize) -> [u32; 64]
+    requires { (buyers ≤ 6) × AtMost 9999 payoffs.now × AtMost 59994 values.now }
     ensures { Gains buyers values.now payoffs.now result }
 {
-    let mut next = [0u32; 64];
-    let mut k: usize = 0;
-    while k < sets {
+    let mut next = [0; 64];
+    for k in 0..sets_of(buyers) {
         next[k] = SHIFT + values[k] - payoff_of(payoffs, buyers, k);
-        k += 1;
     }
     next
-}
-
-// Whether the set k has none but buyers of an economy: that of all for 0, else that without the buyer `absent`.
-fn is_inside(buyers: usize, absent: usize, k: usize) -> bool
-    requires { (buyers ≤ 6) × (absent ≤ buyers) }
-    ensures { result ≡ inside (roster buyers) (present_in absent) k }
-{
-    if absent == 0 {
-        return true;
-    }
-    !is_member(k, absent)
-}
-
-// The greatest gain of a set in an economy.
-fn revenue(gains: &[u32; 64], buyers: usize, sets: usize, economy: usize) -> u32
-    requires { (buyers ≤ 6) × Is (2 ^ buyers) sets 64 × (economy ≤ buyers) }
-    ensures { result ≡ greatest buyers gains.now economy }
-{
-    let mut best: u32 = 0;
-    let mut k: usize = 0;
-    while k < sets {
-        let g = gains[k];
-        if best < g {
-            if is_inside(buyers, economy, k) {
-                best = g;
-            }
-        }
-        k += 1;
-    }
-    best
-}
-
-// The revenue of each economy, up to that of number `last`.
-pub fn revenues(gains: &[u32; 64], buyers: usize, last: usize, sets: usize) -> [u32; 7]
-    requires { (buyers ≤ 6) × (last ≤ buyers) × Is (2 ^ buyers) sets 64 }
-    ensures { Revenues buyers last gains.now result }
-{
-    let mut next = [0u32; 7];
-    let mut e: usize = 0;
-    while e <= last {
-        next[e] = revenue(gains, buyers, sets, e);
-        e += 1;
-    }
-    next
-}
-
-// For each set, the word of the sets of some of its members. A constant table is laid out anew at each use, so a sale
-// makes it once and lends it.
-const SUBSETS: [u64; 64] = [
-    1,
-    3,
-    5,
-    15,
-    17,
-    51,
-    85,
-    255,
-    257,
-    771,
-    1285,
-    3855,
-    4369,
-    13107,
-    21845,
-    65535,
-    65537,
-    196611,
-    327685,
-    983055,
-    1114129,
-    3342387,
-    5570645,
-    16711935,
-    16843009,
-    50529027,
-    84215045,
-    252645135,
-    286331153,
-    858993459,
-    1431655765,
-    4294967295,
-    4294967297,
-    12884901891,
-    21474836485,
-    64424509455,
-    73014444049,
-    219043332147,
-    365072220245,
-    1095216660735,
-    1103806595329,
-    3311419785987,
-    5519032976645,
-    16557098929935,
-    18764712120593,
-    56294136361779,
-    93823560602965,
-    281470681808895,
-    281479271743489,
-    844437815230467,
-    1407396358717445,
-    4222189076152335,
-    4785147619639313,
-    14355442858917939,
-    23925738098196565,
-    71777214294589695,
-    72340172838076673,
-    217020518514230019,
-    361700864190383365,
-    1085102592571150095,
-    1229782938247303441,
-    3689348814741910323,
-    6148914691236517205,
-    18446744073709551615,
-];
-
-// That table.
-pub fn subsets() -> [u64; 64]
-    ensures { Subsets result }
-{
-    SUBSETS
-}
-
-// The sets whose members in an economy are all in k, a set of that economy.
-fn covered(subsets: &[u64; 64], buyers: usize, economy: usize, k: usize) -> u64
-    requires { Subsets subsets.now × (buyers ≤ 6) × (economy ≤ buyers) × (k < 2 ^ buyers)
-        × (inside (roster buyers) (present_in economy) k ≡ true) }
-    ensures { Word buyers (λ n. covers (roster buyers) (present_in economy) n k) result }
-{
-    if economy == 0 {
-        return subsets[k];
-    }
-    let more = k + power(economy - 1);
-    subsets[more]
-}
-
-// The least revenue. That none is below it is all that its contract says: sets that gain less are passed over.
-fn least_of(revenues: &[u32; 7], last: usize) -> u32
-    requires { last ≤ 6 }
-    ensures { Under last revenues.now result }
-{
-    let mut least = revenues[0];
-    let mut e: usize = 1;
-    while e <= last {
-        let r = revenues[e];
-        if r < least {
-            least = r;
-        }
-        e += 1;
-    }
-    least
-}
-
-// Adds the sets that the set k covers to the words of the economies whose revenue is its gain.
-fn reach(
-    subsets: &[u64; 64],
-    words: &mut [u64; 7],
-    revenues: &[u32; 7],
-    buyers: usize,
-    last: usize,
-    k: usize,
-    gain: u32,
-)
-    requires { Subsets subsets.now × (length words.old ≡ 7) × (buyers ≤ 6) × (last ≤ buyers)
-        × (k < 2 ^ buyers) }
-    ensures { (length words.new ≡ 7)
-        × Joins buyers last revenues.now gain k words.old words.new }
-{
-    let mut e: usize = 0;
-    while e <= last {
-        if gain == revenues[e] {
-            if is_inside(buyers, e, k) {
-                words[e] = words[e] | covered(subsets, buyers, e, k);
-            }
-        }
-        e += 1;
-    }
-}
-
-// The sets that are supplied in each economy: those whose members in it are all in a set that gains the revenue. A set
-// that gains less than the least revenue gains none of them.
-pub fn supplied(
-    subsets: &[u64; 64],
-    gains: &[u32; 64],
-    revenues: &[u32; 7],
-    buyers: usize,
-    last: usize,
-    sets: usize,
-) -> [u64; 7]
-    requires { Subsets subsets.now × (buyers ≤ 6) × (last ≤ buyers) × Is (2 ^ buyers) sets 64 }
-    ensures { Supplied buyers last gains.now revenues.now result }
-{
-    let least = least_of(revenues, last);
-    let mut words = [0u64; 7];
-    let mut k: usize = 0;
-    while k < sets {
-        let g = gains[k];
-        if least <= g {
-            reach(subsets, &mut words, revenues, buyers, last, k, g);
-        }
-        k += 1;
-    }
-    words
-}
-
-// The sets that are supplied in every economy.
-fn everywhere(words: &[u64; 7], last: usize) -> u64
-    requires { last ≤ 6 }
-    ensures { Word 6 (λ n. every (last + 1) 0 (λ e. bit n (at words.now e))) result }
-{
-    let mut word: u64 = 18446744073709551615;
-    let mut e: usize = 0;
-    while e <= last {
-        word = word & words[e];
-        e += 1;
-    }
-    word
 }
 
 // The set of all keen buyers: those that have something left.
@@ -285,47 +93,138 @@ fn keen_set(payoffs: &[u32; 6], buyers: usize) -> usize
     requires { buyers ≤ 6 }
     ensures { KeenBuyers buyers payoffs.now result }
 {
-    let mut set: usize = 0;
-    let mut i: usize = buyers;
-    while 0 < i {
-        set = 2 * set;
-        if 1 <= payoffs[i - 1] {
-            set += 1;
+    let mut set = 0;
+    for i in 0..buyers {
+        if 1 <= payoffs[i] {
+            set += power(i);
         }
-        i -= 1;
     }
     set
 }
 
-// 1 more than the lowest set of one word that the other lacks, 0 if there is none.
-fn first_missing(word: u64, other: u64, sets: usize) -> usize
+// The lowest set of one word that the other lacks, if there is one.
+fn first_missing(word: u64, other: u64, sets: usize) -> Option<usize>
     requires { sets ≤ 64 }
-    ensures { Is (least sets 0 (λ n. bit n word && not (bit n other))) result 64 }
+    ensures { Is (least sets 0 (λ n. bit n word && not (bit n other))) (one_more result) 64 }
 {
-    let mut n: usize = 0;
-    while n < sets {
-        if has(word, n) {
-            if !has(other, n) {
-                return n + 1;
-            }
+    for n in 0..sets {
+        if has(word, n) && !has(other, n) {
+            return Some(n);
         }
-        n += 1;
     }
-    0
+    None
 }
 
-// 1 more than the number of the lowest set of keen buyers that some economy does not supply, 0 if there is none.
-pub fn lowest(
-    subsets: &[u64; 64],
-    words: &[u64; 7],
-    payoffs: &[u32; 6],
-    buyers: usize,
-    last: usize,
-    sets: usize,
-) -> usize
-    requires { Subsets subsets.now × (buyers ≤ 6) × (last ≤ buyers) × Is (2 ^ buyers) sets 64 }
-    ensures { Is (lowest_in buyers last words.now payoffs.now) result 64 }
-{
-    let keen = keen_set(payoffs, buyers);
-    first_missing(subsets[keen], everywhere(words, last), sets)
+// How many buyers there are, and the last economy that sets are judged in. Economies are numbered from 0: number 0 is
+// that of all buyers, and the others are each without the buyer of the same number.
+#[derive(Clone, Copy)]
+pub struct Economies {
+    pub buyers: usize,
+    pub last: usize,
+    pub ghost few: { (buyers ≤ 6) × (last ≤ buyers) },
+}
+
+impl Economies {
+    // Whether the set k has none but buyers of an economy.
+    fn is_inside(self, economy: usize, k: usize) -> bool
+        requires { economy ≤ self.buyers }
+        ensures { result ≡ inside (roster self.buyers) (present_in economy) k }
+    {
+        economy == 0 || !is_member(k, economy)
+    }
+
+    // The greatest gain of a set in an economy.
+    fn revenue(self, gains: &[u32; 64], economy: usize) -> u32
+        requires { economy ≤ self.buyers }
+        ensures { result ≡ greatest self.buyers gains.now economy }
+    {
+        let mut best = 0;
+        for k in 0..sets_of(self.buyers) {
+            if best < gains[k] && self.is_inside(economy, k) {
+                best = gains[k];
+            }
+        }
+        best
+    }
+
+    // The revenue of each economy.
+    pub fn revenues(self, gains: &[u32; 64]) -> [u32; 7]
+        ensures { Revenues self.buyers self.last gains.now result }
+    {
+        let mut next = [0; 7];
+        for e in 0..self.last + 1 {
+            next[e] = self.revenue(gains, e);
+        }
+        next
+    }
+
+    // The sets whose members in an economy are all in k, a set of that economy.
+    fn covered(self, economy: usize, k: usize) -> u64
+        requires { (economy ≤ self.buyers) × (k < 2 ^ self.buyers)
+            × (inside (roster self.buyers) (present_in economy) k ≡ true) }
+        ensures { Word self.buyers (λ n. covers (roster self.buyers) (present_in economy) n k) result }
+    {
+        if economy == 0 {
+            return subsets_of(k);
+        }
+        subsets_of(k + power(economy - 1))
+    }
+
+    // The least revenue. That none is below it is all that its contract says: sets that gain less are passed over.
+    fn least_of(self, revenues: &[u32; 7]) -> u32
+        ensures { Under self.last revenues.now result }
+    {
+        let mut least = revenues[0];
+        for e in 1..self.last + 1 {
+            least = least.min(revenues[e]);
+        }
+        least
+    }
+
+    // Adds the sets that the set k covers to the words of the economies whose revenue is its gain.
+    fn reach(self, words: &mut [u64; 7], revenues: &[u32; 7], k: usize, gain: u32)
+        requires { (length words.old ≡ 7) × (k < 2 ^ self.buyers) }
+        ensures { (length words.new ≡ 7) × Joins self.buyers self.last revenues.now gain k words.old words.new }
+    {
+        for e in 0..self.last + 1 {
+            if gain == revenues[e] && self.is_inside(e, k) {
+                words[e] |= self.covered(e, k);
+            }
+        }
+    }
+
+    // The sets that are supplied in each economy: those whose members in it are all in a set that gains the revenue. A
+    // set that gains less than the least revenue gains none of them.
+    pub fn supplied(self, gains: &[u32; 64], revenues: &[u32; 7]) -> [u64; 7]
+        ensures { Supplied self.buyers self.last gains.now revenues.now result }
+    {
+        let least = self.least_of(revenues);
+        let mut words = [0; 7];
+        for k in 0..sets_of(self.buyers) {
+            if least <= gains[k] {
+                self.reach(&mut words, revenues, k, gains[k]);
+            }
+        }
+        words
+    }
+
+    // The sets that are supplied in every economy.
+    fn everywhere(self, words: &[u64; 7]) -> u64
+        ensures { Word 6 (λ n. every (self.last + 1) 0 (λ e. bit n (at words.now e))) result }
+    {
+        let mut word = u64::MAX;
+        for e in 0..self.last + 1 {
+            word &= words[e];
+        }
+        word
+    }
+
+    // The lowest set of keen buyers that some economy does not supply, if there is one.
+    pub fn lowest(self, words: &[u64; 7], payoffs: &[u32; 6]) -> Option<usize>
+        ensures { Is (lowest_in self.buyers self.last words.now payoffs.now) (one_more result) 64 }
+    {
+        let keen = subsets_of(keen_set(payoffs, self.buyers));
+        let supplied = self.everywhere(words);
+        first_missing(keen, supplied, sets_of(self.buyers))
+    }
 }

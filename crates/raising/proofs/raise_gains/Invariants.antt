@@ -1,12 +1,8 @@
 -- `raising::raise_gains` meets its contract. The invariant: the gains of the first k sets are raised.
-use Rattle.std.proofs.Common.{◌-◌, ◌≤◌}
 use Rattle.theory.proofs.Loops.{Revised}
 use Rattle.raising.proofs.Counting.{Gained}
 use Rattle.raising.proofs.raise_gains.Given as goal
 
 abbrev pub invariant-loop-k : goal.invariant-loop-k
 invariant-loop-k l =
-    (l.k ≤ l.sets) × Revised (Gained l.buyers l.initial.gains l.set) 64 l.initial.gains l.k l.gains
-
-abbrev pub decreases-loop-k : goal.decreases-loop-k
-decreases-loop-k l = l.sets - l.k
+    Revised (Gained l.buyers l.initial.gains l.set) 64 l.initial.gains l.k l.gains

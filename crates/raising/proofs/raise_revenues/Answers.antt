@@ -1,39 +1,55 @@
-use Rattle.std.proofs.Common.{◌≡◌, ◌+◌, arith}
+use Rattle.std.proofs.Common.{◌≡◌, ◌+◌, not, ap, ◌∙◌, arith}
 use lib.Pow.{pow_mono}
+use Rattle.theory.specs.Sums.{when}
 use Rattle.theory.specs.Kept.{around}
-use Rattle.theory.proofs.Loops.{revised_set}
+use Rattle.theory.proofs.Loops.{revised_none, revised_set}
 use Rattle.owners.specs.Quick.{present_in, roster}
 use Rattle.supply.specs.Supply.{at}
-use Rattle.raising.proofs.Counting.{common_present, raised_in, raised_out}
+use Rattle.raising.proofs.Counting.{one_if, one_most, common_present, raised}
 use Rattle.raising.proofs.raise_revenues.Goals as goal
-use Rattle.raising.proofs.raise_revenues.Goals.{then-has, else-has}
+
+pub loop-e-init : goal.loop-e-init
+loop-e-init c = revised_none _ 7 _ c.requires.1
 
 pub common-requires : goal.common-requires
-common-requires c = omega (arith, pow_mono {i = c.args.buyers} {j = 6} c.requires.0)
+common-requires c = omega (arith, pow_mono {i = c.args.economies.buyers} {j = 6} c.args.economies.few.0)
 
 pub has-requires : goal.has-requires
-has-requires c = omega (arith, pow_mono {i = c.args.buyers} {j = 6} c.requires.0)
+has-requires c = omega (arith, pow_mono {i = c.args.economies.buyers} {j = 6} c.args.economies.few.0)
+
+pub overflow_add-up : goal.overflow_add-up
+overflow_add-up c =
+    let l = c.loop-e in
+    omega (arith, l.invariant.rest l.e (omega arith), c.requires.2 l.e (omega arith), c.common.ensures.few)
+
+pub overflow_sub-revenues : goal.overflow_sub-revenues
+overflow_sub-revenues c =
+    let l = c.loop-e in
+    omega (
+      arith,
+      l.invariant.rest l.e (omega arith),
+      c.requires.2 l.e (omega arith),
+      c.from.ensures,
+      one_most (not c.has.result),
+    )
 
 pub loop-e-preserved : goal.loop-e-preserved
 loop-e-preserved c =
     let l = c.loop-e in
     let a = c.args in
+    let m = a.economies.buyers in
     let e = l.e in
-    let up : at l.revenues e + c.common.result
-    ≡ at a.revenues.now e + around (roster a.buyers) (present_in e) a.set =
+    let up : at l.revenues e + c.common.result ≡ at a.revenues.now e + around (roster m) (present_in e) a.set =
     omega (
       arith,
-      l.invariant.1.rest e (omega arith),
-      common_present a.set c.all_but.result c.common.result a.buyers e c.requires.0 c.all_but.ensures
-          (c.common.ensures.is a.buyers c.requires.2),
-    ) in (
-      omega arith,
-      revised_set _ 7 a.revenues.now e l.revenues l.invariant.1 (omega arith) c.if-has.next
-          (elim c.if-has.branch [
-            | then-has w ↦
-                raised_in a.buyers a.revenues.now a.words.now a.set e _ _ up _ c.has.ensures w.if-has.true w.next-is
-            | else-has w ↦
-                raised_out a.buyers a.revenues.now a.words.now a.set e _ _ up _ c.has.ensures w.if-has.false
-                (omega (arith, l.invariant.1.rest e (omega arith), c.requires.4 e (omega arith))) w.next-is
-          ]),
-    )
+      l.invariant.rest e (omega arith),
+      common_present a.set c.all_but.result c.common.result m e a.economies.few.0 c.all_but.ensures
+          (c.common.ensures.is m c.requires.0),
+    ) in
+    revised_set _ 7 a.revenues.now e l.revenues l.invariant (omega arith) _
+    (raised m a.revenues.now a.words.now a.set e _ c.from.result up
+    (c.from.ensures ∙ one_if (not c.has.result) ∙ ap (λ b. when (not b) 1) c.has.ensures)
+    (omega (arith, l.invariant.rest e (omega arith), c.requires.2 e (omega arith))))
+
+pub returns : goal.returns
+returns c = (c.loop-e.invariant.long, λ e h. c.loop-e.invariant.done e (omega arith))

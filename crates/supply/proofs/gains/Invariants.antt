@@ -1,5 +1,4 @@
 -- `supply::gains` meets its contract. The invariant: the gains of the first k sets stand in their places.
-use Rattle.std.proofs.Common.{◌-◌, ◌≤◌}
 use Rattle.theory.specs.Coalitions.{gain}
 use Rattle.theory.proofs.Loops.{Filled}
 use Rattle.owners.specs.Quick.{roster}
@@ -7,8 +6,4 @@ use Rattle.supply.specs.Supply.{shift, at, payoff_at}
 use Rattle.supply.proofs.gains.Given as goal
 
 abbrev pub invariant-loop-k : goal.invariant-loop-k
-invariant-loop-k l =
-    (l.k ≤ l.sets) × Filled (gain (roster l.buyers) shift (at l.values) (payoff_at l.payoffs)) 64 l.k l.next
-
-abbrev pub decreases-loop-k : goal.decreases-loop-k
-decreases-loop-k l = l.sets - l.k
+invariant-loop-k l = Filled (gain (roster l.buyers) shift (at l.values) (payoff_at l.payoffs)) 64 l.k l.next
