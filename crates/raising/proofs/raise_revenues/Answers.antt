@@ -1,4 +1,4 @@
-use Rattle.std.proofs.Common.{◌≡◌, ◌+◌, not, ap, ◌∙◌, arith}
+use Rattle.std.proofs.Common.{◌≡◌, ◌+◌, ◌≤◌, not, ap, ◌∙◌, arith}
 use lib.Pow.{pow_mono}
 use Rattle.theory.specs.Sums.{when}
 use Rattle.theory.specs.Kept.{around}
@@ -25,13 +25,8 @@ overflow_add-up c =
 pub overflow_sub-revenues : goal.overflow_sub-revenues
 overflow_sub-revenues c =
     let l = c.loop-e in
-    omega (
-      arith,
-      l.invariant.rest l.e (omega arith),
-      c.requires.2 l.e (omega arith),
-      c.from.ensures,
-      one_most (not c.has.result),
-    )
+    let one : c.from.result ≤ 1 = rw c.from.ensures (one_most _) in
+    omega (arith, l.invariant.rest l.e (omega arith), c.requires.2 l.e (omega arith))
 
 pub loop-e-preserved : goal.loop-e-preserved
 loop-e-preserved c =
