@@ -1,7 +1,7 @@
 -- Rounds over any choice and step, while they go on (`Going`) and when they have ended (`Done`). Offers the begin
 -- (`begun`), one round more (`goes_on`), the two ends (`settles`, `runs_out`), and what one round answers
 -- (`round_none`, `round-some`).
-use mathlib.Core.Path.{◌≡◌, refl, sym, ap, ◌∙◌}
+use mathlib.Core.Path.{◌≡◌, refl, sym, ap, subst, ◌∙◌}
 use mathlib.Core.Bool.{Bool, true, false}
 use mathlib.Core.List.{List, [], ◌∷◌, ◌++◌, append_assoc, append-nil}
 use Prim.Native.Nat.{ℕ, suc, ◌+◌, ◌-◌, ◌≤◌, ◌<◌}
@@ -76,9 +76,11 @@ module _
       }
 
   -- the limit is reached
-  pub runs_out : limit ≤ n → Done choose step limit start o ps l n
+  pub runs_out : limit ≤ n → Done choose step limit start o ps l limit
   runs_out h =
-      let k : limit - n ≡ 0 = omega arith in ends (ap (λ k. choices choose step k ps) k) ps l refl refl
+      let k : limit - n ≡ 0 = omega arith in
+      let all : n ≡ limit = omega (arith, g.few) in
+      subst (Done choose step limit start o ps l) all (ends (ap (λ k. choices choose step k ps) k) ps l refl refl)
 
   -- one round more, that was lent the record from n on and left `end` there
   module _ (h : n < limit) (f : limit ≤ length o) {ps' end : List ℕ} {settled : Bool}
@@ -126,14 +128,15 @@ module _
         ∙ length-set l n (choose ps - 1) ∙ g.same)
 
 -- a round that finds no set, and one that finds one
-module _ (choose : List ℕ → ℕ) (step : ℕ → List ℕ → List ℕ) (ps o : List ℕ) (x : ℕ) (e : x ≡ choose ps) where
-  pub round_none : x ≡ 0 → Round choose step ps o ps o true
-  round_none z =
-      let v : eqb (choose ps) 0 ≡ true = eq-eqb (choose ps) 0 (sym e ∙ z) in
+module _ (choose : List ℕ → ℕ) (step : ℕ → List ℕ → List ℕ) (ps o : List ℕ) where
+  pub round_none : 0 ≡ choose ps → Round choose step ps o ps o true
+  round_none e =
+      let v : eqb (choose ps) 0 ≡ true = eq-eqb (choose ps) 0 (sym e) in
       record { prices = rw v; bytes = rw v; ends = sym v }
 
-  pub round-some : (qs o' : List ℕ) → (x ≡ 0 → ⊥) → o' ≡ set o 0 (x - 1) → qs ≡ step (x - 1) ps →
+  pub round-some : (x : ℕ) → suc x ≡ choose ps → (qs o' : List ℕ) → o' ≡ set o 0 x → qs ≡ step x ps →
       Round choose step ps o qs o' false
-  round-some qs o' z w q =
-      let v : eqb (choose ps) 0 ≡ false = ne_eqb (choose ps) 0 (λ w. z (e ∙ w)) in
-      record { prices = rw v (q ∙ ap (λ y. step (y - 1) ps) e); bytes = rw (v, w, e); ends = sym v }
+  round-some x e qs o' w q =
+      let v : eqb (choose ps) 0 ≡ false = ne_eqb (choose ps) 0 (λ z. omega arith) in
+      let one : choose ps - 1 ≡ x = omega arith in
+      record { prices = rw (v, one) q; bytes = rw (v, one) w; ends = sym v }

@@ -34,7 +34,8 @@ use Rattle.lists.specs.Words.{digit, words_of, Packed, Lent}
 use Rattle.totals.specs.Totals.{word_holders, word_total, word_total_by}
 use Rattle.totals.proofs.Listed.{value_found}
 use Rattle.supply.specs.Supply.{shift, at}
-use Rattle.rounds.specs.Rounds.{Tables, KeptAt, Opens, OwnPrices, Sold, lowest_at, step_at}
+use Rattle.rounds.specs.declared.Tables.{Tables}
+use Rattle.rounds.specs.Rounds.{KeptAt, Opens, OwnPrices, Sold, lowest_at, step_at}
 use Rattle.rounds.proofs.Going.{Going, Done}
 
 -- the values that the words of all allocations give, and that they are small

@@ -1,19 +1,19 @@
 -- Rounds as the code takes them, judged in the economies 0 to l. Offers `lowest_at` and `step_at`, the choice and the
--- raise by coalition values, what is kept from round to round (`KeptAt`), and what the functions ask (`Ready`, `Small`,
+-- raise by coalition values, what is kept from round to round (`KeptAt`), and what the functions ask (`Small`,
 -- `Opens`, `OwnPrices`) and answer (`Round`, `TurnAt`, `Sold`); `Sold` is by the definition's rounds alone.
-use Rattle.std.specs.Prelude.{◌≡◌, Bool, List, ℕ, ◌+◌, ◌-◌, ◌^◌, ◌≤◌, eqb, length, set}
+use Rattle.std.specs.Prelude.{◌≡◌, Bool, List, ℕ, ◌+◌, ◌-◌, ◌≤◌, eqb, length, set}
 use Rattle.theory.specs.Sums.{pick}
 use Rattle.theory.specs.Lists.{over}
 use Rattle.theory.specs.Coalitions.{lowest_by}
-use Rattle.numbers.specs.Numbers.{Is}
 use Rattle.owners.specs.Owners.{member}
 use Rattle.owners.specs.Prices.{buyer_rows, Holds}
 use Rattle.owners.specs.Quick.{left, raised_by, roster_in}
 use Rattle.owners.specs.Singles.{worth_table, AtMost}
 use Rattle.offers.specs.Offers.{Offer, market, layout, worth_of}
 use Rattle.offers.specs.Rounds.{sets_from, prices_from}
-use Rattle.supply.specs.Supply.{shift, at, payoff_at, Subsets, Keeps, SmallGains, SmallRevenues}
+use Rattle.supply.specs.Supply.{shift, at, payoff_at, Keeps, SmallGains, SmallRevenues}
 use Rattle.raising.specs.Raising.{Rows}
+use Rattle.rounds.specs.declared.Tables.{Tables}
 
 -- 1 more than the number of the lowest undersupplied set at the prices ps, by the values; `top` is the bundle of all
 -- lots
@@ -34,16 +34,7 @@ pub record Round (choose : List ℕ → ℕ) (step : ℕ → List ℕ → List �
   pub bytes : o' ≡ pick (eqb (choose ps) 0) o (set o 0 (choose ps - 1))
   pub ends : settled ≡ eqb (choose ps) 0
 
--- what is kept from round to round: what each buyer has left, the gains of the sets, the revenues of the economies
-pub record Tables : Type 0 where
-  pub payoffs : List ℕ
-  pub gains : List ℕ
-  pub revenues : List ℕ
-
-abbrev pub tables : List ℕ → List ℕ → List ℕ → Tables
-tables πs gs rs = record { payoffs = πs; gains = gs; revenues = rs }
-
--- they are as long as the code's
+-- what is kept from round to round is as long as the code's
 pub record Long (k : Tables) : Type 0 where
   pub payoffs : length k.payoffs ≡ 6
   pub gains : length k.gains ≡ 64
@@ -56,15 +47,7 @@ pub record KeptAt (m l top : ℕ) (ws values ps : List ℕ) (k : Tables) : Type 
   pub prices : Rows ps
   pub long : Long k
 
--- what a round asks: the same in all rounds, and of what is kept
-pub record Ready (m l all sets : ℕ) (subsets : List ℕ) : Type 0 where
-  pub few : m ≤ 6
-  pub judged : l ≤ m
-  pub two : 2 ≤ all
-  pub short : all ≤ 16
-  pub many : Is (2 ^ m) sets 64
-  pub words : Subsets subsets
-
+-- what a round asks of what is kept
 pub record Small (m l : ℕ) (k : Tables) : Type 0 where
   pub long : Long k
   pub payoffs : AtMost 9999 k.payoffs

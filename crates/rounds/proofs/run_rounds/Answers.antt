@@ -1,6 +1,5 @@
 use Rattle.std.proofs.Common.{ℕ, List, ◌-◌, ◌<◌, length, take, drop, arith, length-drop}
 use lib.ListN.{length-take}
-use Rattle.supply.proofs.Keeping.{keeps_start}
 use Rattle.rounds.proofs.Rising.{step_small}
 use Rattle.rounds.proofs.Going.{begun, goes_on, settles, runs_out}
 use Rattle.rounds.proofs.Turning.{kept_small}
@@ -11,47 +10,25 @@ use Rattle.rounds.proofs.run_rounds.Goals as goal
 rest_some : (o : List ℕ) (n : ℕ) → n < length o → 0 < length (take (length o - n) (drop n o))
 rest_some o n h = simp (length-take, length-drop) (omega arith)
 
-pub gains-gains-requires : goal.gains-gains-requires
-gains-gains-requires c =
+pub tables-kept-requires : goal.tables-kept-requires
+tables-kept-requires c =
     let p = c.requires in
     let values = c.values-values in (
-      p.few,
-      c.sets_of-sets.ensures,
-      c.payoffs-payoffs.ensures.0,
+      p.small,
       valued_small c.args.buyers c.args.worths.now c.args.list.now values.result p.few p.small values.ensures,
+      p.start,
     )
-
-pub revenues-revenues-requires : goal.revenues-revenues-requires
-revenues-revenues-requires c = (c.requires.few, omega (arith, c.requires.judged), c.sets_of-sets.ensures)
 
 pub loop-n-init : goal.loop-n-init
-loop-n-init c =
-    let p = c.requires in
-    let values = c.values-values in
-    let payoffs = c.payoffs-payoffs in
-    let gains = c.gains-gains in
-    let revenues = c.revenues-revenues in (
-      p,
-      record {
-        values = values.result;
-        valued = values.ensures;
-        going = begun p.low;
-        kept =
-            record {
-              payoffs = payoffs.ensures.1;
-              keeps =
-                  keeps_start c.args.buyers c.args.last values.result payoffs.result gains.result revenues.result
-                  payoffs.ensures.0 gains.ensures revenues.ensures;
-              prices = p.start;
-              long =
-                  record {
-                    payoffs = omega (arith, payoffs.type_inv);
-                    gains = omega (arith, gains.type_inv);
-                    revenues = omega (arith, revenues.type_inv);
-                  };
-            };
-      },
-    )
+loop-n-init c = (
+  c.requires,
+  record {
+    values = c.values-values.result;
+    valued = c.values-values.ensures;
+    going = begun c.requires.low;
+    kept = c.tables-kept.ensures;
+  },
+)
 
 pub round-requires : goal.round-requires
 round-requires c =
@@ -59,15 +36,6 @@ round-requires c =
     let a = c.args in
     let (p, i) = l.invariant in
     let room : l.n < length l.log = omega (arith, i.going.same, p.room, c.loop-n-test.true) in (
-      record {
-        few = p.few;
-        judged = p.judged;
-        two = p.two;
-        short = p.short;
-        many = c.sets_of-sets.ensures;
-        words = c.subsets-subsets.ensures;
-      },
-      p.worths,
       i.kept.prices,
       λ k. omega (arith, i.going.small k, p.rise),
       kept_small p.few

@@ -1,7 +1,6 @@
 -- `rounds::run_rounds` meets its contract. The invariant: the rounds are going on, by coalition values, with what is
 -- kept (`Running`); when they end they are those of whatever offer the words are of (`sold`).
-use Rattle.std.proofs.Common.{◌-◌}
-use Rattle.rounds.specs.Rounds.{tables, Opens}
+use Rattle.rounds.specs.Rounds.{Opens}
 use Rattle.rounds.proofs.Selling.{Running}
 use Rattle.rounds.proofs.run_rounds.Given as goal
 
@@ -9,7 +8,4 @@ abbrev pub invariant-loop-n : goal.invariant-loop-n
 invariant-loop-n l =
     (opens : Opens l.buyers l.last l.bundles l.worths l.initial.prices l.limit l.initial.log)
     × Running l.buyers l.last l.bundles l.list l.worths l.initial.prices l.limit opens.most l.initial.log l.prices l.log
-    l.n (tables l.payoffs l.gains l.revenues)
-
-abbrev pub decreases-loop-n : goal.decreases-loop-n
-decreases-loop-n l = l.limit - l.n
+    l.n l.kept

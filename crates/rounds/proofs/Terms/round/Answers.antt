@@ -1,69 +1,56 @@
--- `rounds::round` meets its contract.
-use Rattle.std.proofs.Common.{◌≡◌, List, ℕ, suc, ◌-◌, sym, ◌∙◌, arith}
-use Rattle.supply.specs.Supply.{lowest_in}
+-- `rounds::Terms::round` meets its contract.
+use Rattle.std.proofs.Common.{sym}
 use Rattle.supply.proofs.Keeping.{lowest_below, lowest_keens}
-use Rattle.rounds.specs.Rounds.{tables}
 use Rattle.rounds.proofs.Turning.{turn_none, turn_some}
-use Rattle.rounds.proofs.round.Goals as goal
+use Rattle.rounds.proofs.Terms.round.Goals as goal
 
--- where a set is found it is one of keen buyers there are
-chosen : (m l : ℕ) (words ps : List ℕ) (x : ℕ) → x ≡ lowest_in m l words ps → (x ≡ 0 → ⊥) →
-    lowest_in m l words ps ≡ suc (x - 1)
-chosen m l words ps x e some = sym e ∙ omega arith
-
-pub lowest-x-requires : goal.lowest-x-requires
-lowest-x-requires c = let r = c.requires.0 in (r.words, r.few, omega (arith, r.judged), r.many)
-
-pub returns-then-x-eq0 : goal.returns-then-x-eq0
-returns-then-x-eq0 c =
+pub returns-in_default : goal.returns-in_default
+returns-in_default c =
     let a = c.args in
-    let r = c.requires.0 in
-    turn_none a.buyers a.last a.bundles r.few r.two r.short a.worths.now a.prices.now
-    (tables a.payoffs.now a.gains.now a.revenues.now) c.supplied-words.result c.supplied-words.ensures
-    c.lowest-x.result c.lowest-x.ensures.is a.rest.now c.if-x-eq0.true
+    let E = a.self.now.economies in
+    let V = a.self.now.valuations in
+    turn_none E.buyers E.last V.bundles E.few.0 a.self.now.two V.whole.1 V.worths.now a.prices.now a.kept.now
+    c.supplied-words.result c.supplied-words.ensures a.rest.now c.in_default.ensures.is
 
 pub lower_payoffs-requires : goal.lower_payoffs-requires
 lower_payoffs-requires c =
     let a = c.args in
-    let words = c.supplied-words.result in
-    let lowest = chosen a.buyers a.last words a.payoffs.now _ c.lowest-x.ensures.is c.if-x-eq0.false in (
-      c.requires.0.few,
-      c.requires.4.long.payoffs,
-      c.requires.4.payoffs,
-      lowest_keens a.buyers a.last words a.payoffs.now _ lowest,
+    let E = a.self.now.economies in
+    let small = c.requires.2 in (
+      E.few.0,
+      small.long.payoffs,
+      small.payoffs,
+      lowest_keens E.buyers E.last c.supplied-words.result a.kept.now.payoffs _ (sym c.in-Some.ensures.is),
     )
 
 pub raise_gains-requires : goal.raise_gains-requires
 raise_gains-requires c =
     let a = c.args in
-    let words = c.supplied-words.result in
-    let lowest = chosen a.buyers a.last words a.payoffs.now _ c.lowest-x.ensures.is c.if-x-eq0.false in (
-      c.requires.0.few,
-      c.requires.0.many,
-      lowest_below a.buyers a.last words a.payoffs.now _ lowest,
-      c.requires.4.long.gains,
-      c.requires.4.gains,
+    let E = a.self.now.economies in
+    let small = c.requires.2 in (
+      E.few.0,
+      lowest_below E.buyers E.last c.supplied-words.result a.kept.now.payoffs _ (sym c.in-Some.ensures.is),
+      small.long.gains,
+      small.gains,
     )
 
 pub raise_revenues-requires : goal.raise_revenues-requires
 raise_revenues-requires c =
     let a = c.args in
-    let words = c.supplied-words.result in
-    let lowest = chosen a.buyers a.last words a.payoffs.now _ c.lowest-x.ensures.is c.if-x-eq0.false in (
-      c.requires.0.few,
-      c.requires.0.judged,
-      lowest_below a.buyers a.last words a.payoffs.now _ lowest,
-      c.requires.4.long.revenues,
-      c.requires.4.revenues,
+    let E = a.self.now.economies in
+    let small = c.requires.2 in (
+      lowest_below E.buyers E.last c.supplied-words.result a.kept.now.payoffs _ (sym c.in-Some.ensures.is),
+      small.long.revenues,
+      small.revenues,
     )
 
 pub returns : goal.returns
 returns c =
     let a = c.args in
-    let r = c.requires.0 in
-    turn_some a.buyers a.last a.bundles r.few r.two r.short a.worths.now a.prices.now
-    (tables a.payoffs.now a.gains.now a.revenues.now) c.supplied-words.result c.supplied-words.ensures
-    c.lowest-x.result c.lowest-x.ensures.is a.rest.now _ _ _ c.if-x-eq0.false
+    let E = a.self.now.economies in
+    let V = a.self.now.valuations in
+    turn_some E.buyers E.last V.bundles E.few.0 a.self.now.two V.whole.1 V.worths.now a.prices.now a.kept.now
+    c.supplied-words.result c.supplied-words.ensures c.in-Some.set c.in-Some.ensures.is a.rest.now _ _ _
     c.note.ensures c.raise.ensures
     (record {
       payoffs = c.lower_payoffs.ensures.0;
