@@ -66,7 +66,7 @@ impl Valuations<'_> {
             (payoff_at payoffs.now)
             prices.old }
     {
-        for i in 1..buyers + 1 {
+        for i in 1..=buyers {
             if is_member(set, i) {
                 self.raise_row(prices, i, payoffs[i - 1]);
             }
@@ -76,8 +76,7 @@ impl Valuations<'_> {
 
 // Takes 1 from what each member has left.
 pub fn lower_payoffs(payoffs: &mut [u32; 6], buyers: usize, set: usize)
-    requires { (buyers ≤ 6) × (length payoffs.old ≡ 6) × AtMost 9999 payoffs.old
-        × KeenMembers buyers payoffs.old set }
+    requires { (buyers ≤ 6) × AtMost 9999 payoffs.old × KeenMembers buyers payoffs.old set }
     ensures { (length payoffs.new ≡ 6) × AtMost 9999 payoffs.new
         × NextPayoffs buyers payoffs.old set payoffs.new }
 {
@@ -96,7 +95,7 @@ fn common(set: usize, other: usize) -> u32
 
 // Adds to each set's gain how many members of the raised set it has.
 pub fn raise_gains(gains: &mut [u32; 64], buyers: usize, set: usize)
-    requires { (buyers ≤ 6) × (set < 2 ^ buyers) × (length gains.old ≡ 64) × SmallGains buyers gains.old }
+    requires { (buyers ≤ 6) × (set < 2 ^ buyers) × SmallGains buyers gains.old }
     ensures { (length gains.new ≡ 64)
         × NextGains buyers gains.old set gains.new }
 {
@@ -118,11 +117,11 @@ fn all_but(absent: usize) -> usize
 
 // Adds to the revenue of each economy how many members are present, less 1 if its word has not the set.
 pub fn raise_revenues(revenues: &mut [u32; 7], words: &[u64; 7], economies: Economies, set: usize)
-    requires { (set < 2 ^ economies.buyers) × (length revenues.old ≡ 7) × SmallRevenues economies.last revenues.old }
+    requires { (set < 2 ^ economies.buyers) × SmallRevenues economies.last revenues.old }
     ensures { (length revenues.new ≡ 7)
         × NextRevenues economies.buyers economies.last revenues.old words.now set revenues.new }
 {
-    for e in 0..economies.last + 1 {
+    for e in 0..=economies.last {
         let up = revenues[e] + common(set, all_but(e));
         revenues[e] = up - u32::from(!has(words[e], set));
     }

@@ -15,7 +15,7 @@ use Rattle.supply.specs.Supply.{shift, at, payoff_at, Supplied, lowest_in, NextP
 use Rattle.supply.proofs.Keeping.{keeps_lowest, keeps_next, gain_small, revenue_small}
 use Rattle.raising.proofs.Rising.{raised_long}
 use Rattle.rounds.specs.declared.Tables.{Tables}
-use Rattle.rounds.specs.Rounds.{lowest_at, step_at, Long, KeptAt, Small, TurnAt}
+use Rattle.rounds.specs.Rounds.{lowest_at, step_at, KeptAt, Small, TurnAt}
 use Rattle.rounds.proofs.Rising.{chosen_at, stepped_at, left_step}
 use Rattle.rounds.proofs.Going.{round_none, round-some}
 
@@ -23,7 +23,6 @@ pub kept_small : {m l top : ℕ} {ws values ps : List ℕ} {k : Tables} → m �
     KeptAt m l top ws values ps k → Small m l k
 kept_small {m} {l} {values = values} {k = k} few low kept =
     record {
-      long = kept.long;
       payoffs = kept.keeps.small;
       gains = gain_small m l few values k.payoffs k.gains _ kept.keeps low;
       revenues = revenue_small m l few values k.payoffs k.gains k.revenues kept.keeps low;
@@ -45,11 +44,11 @@ module _
 
   pub turn_some : (x : ℕ) → suc x ≡ lowest_in m l words k.payoffs → (o o' qs : List ℕ) (k' : Tables) →
       o' ≡ set o 0 x →
-      qs ≡ raised_by (buyer_rows m) all (worth_table ws) (member x) (payoff_at k.payoffs) ps → Long k' →
+      qs ≡ raised_by (buyer_rows m) all (worth_table ws) (member x) (payoff_at k.payoffs) ps →
       AtMost 9999 k'.payoffs → NextPayoffs m k.payoffs x k'.payoffs →
       NextGains m k.gains x k'.gains → NextRevenues m l k.revenues words x k'.revenues →
       TurnAt m l all ws ps k o qs k' o' false
-  turn_some x ex o o' qs k' written raised long small fall rise raise values kept =
+  turn_some x ex o o' qs k' written raised small fall rise raise values kept =
       let step : qs ≡ step_at m all ws x ps =
       stepped_at m (all - 1) ws ps k.payoffs kept.payoffs all x qs raised in (
         round-some _ _ ps o x (chosen values kept (suc x) (sym ex)) qs o' written step,
@@ -64,6 +63,5 @@ module _
               (by_values values kept (suc x) (sym ex))
               words supplied k'.payoffs k'.gains k'.revenues small fall rise raise;
           prices = ap length raised ∙ raised_long m all (worth_table ws) (member x) (payoff_at k.payoffs) ps;
-          long = long;
         },
       )

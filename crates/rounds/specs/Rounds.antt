@@ -34,22 +34,14 @@ pub record Round (choose : List ℕ → ℕ) (step : ℕ → List ℕ → List �
   pub bytes : o' ≡ pick (eqb (choose ps) 0) o (set o 0 (choose ps - 1))
   pub ends : settled ≡ eqb (choose ps) 0
 
--- what is kept from round to round is as long as the code's
-pub record Long (k : Tables) : Type 0 where
-  pub payoffs : length k.payoffs ≡ 6
-  pub gains : length k.gains ≡ 64
-  pub revenues : length k.revenues ≡ 7
-
 -- what is kept at the prices ps: payoffs as they are read off the prices, and the others by the values
 pub record KeptAt (m l top : ℕ) (ws values ps : List ℕ) (k : Tables) : Type 0 where
   pub payoffs : (i : ℕ) → 1 ≤ i → i ≤ m → payoff_at k.payoffs i ≡ left (buyer_rows 6) (worth_table ws) top ps i
   pub keeps : Keeps m l values k.payoffs k.gains k.revenues
   pub prices : Rows ps
-  pub long : Long k
 
 -- what a round asks of what is kept
 pub record Small (m l : ℕ) (k : Tables) : Type 0 where
-  pub long : Long k
   pub payoffs : AtMost 9999 k.payoffs
   pub gains : SmallGains m k.gains
   pub revenues : SmallRevenues l k.revenues

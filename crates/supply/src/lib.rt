@@ -68,7 +68,7 @@ fn payoff_of(payoffs: &[u32; 6], buyers: usize, k: usize) -> u32
     ensures { Is (payoff_of (roster buyers) (payoff_at payoffs.now) k) result 59994 }
 {
     let mut total = 0;
-    for i in 1..buyers + 1 {
+    for i in 1..=buyers {
         if is_member(k, i) {
             total += payoffs[i - 1];
         }
@@ -152,7 +152,7 @@ impl Economies {
         ensures { Revenues self.buyers self.last gains.now result }
     {
         let mut next = [0; 7];
-        for e in 0..self.last + 1 {
+        for e in 0..=self.last {
             next[e] = self.revenue(gains, e);
         }
         next
@@ -175,7 +175,7 @@ impl Economies {
         ensures { Under self.last revenues.now result }
     {
         let mut least = revenues[0];
-        for e in 1..self.last + 1 {
+        for e in 1..=self.last {
             least = least.min(revenues[e]);
         }
         least
@@ -183,10 +183,10 @@ impl Economies {
 
     // Adds the sets that the set k covers to the words of the economies whose revenue is its gain.
     fn reach(self, words: &mut [u64; 7], revenues: &[u32; 7], k: usize, gain: u32)
-        requires { (length words.old ≡ 7) × (k < 2 ^ self.buyers) }
-        ensures { (length words.new ≡ 7) × Joins self.buyers self.last revenues.now gain k words.old words.new }
+        requires { k < 2 ^ self.buyers }
+        ensures { Joins self.buyers self.last revenues.now gain k words.old words.new }
     {
-        for e in 0..self.last + 1 {
+        for e in 0..=self.last {
             if gain == revenues[e] && self.is_inside(e, k) {
                 words[e] |= self.covered(e, k);
             }
@@ -213,7 +213,7 @@ impl Economies {
         ensures { Word 6 (λ n. every (self.last + 1) 0 (λ e. bit n (at words.now e))) result }
     {
         let mut word = u64::MAX;
-        for e in 0..self.last + 1 {
+        for e in 0..=self.last {
             word &= words[e];
         }
         word

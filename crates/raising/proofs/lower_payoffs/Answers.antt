@@ -22,6 +22,6 @@ returns c =
     let a = c.args in
     let l = c.loop-i in (
       l.invariant.long,
-      lowered_small a.payoffs.now a.set a.buyers l.i l.payoffs l.invariant c.requires.2,
+      lowered_small a.payoffs.now a.set a.buyers l.i l.payoffs l.invariant c.requires.1,
       lowered_all a.payoffs.now a.set a.buyers l.i l.payoffs l.invariant (omega arith),
     )

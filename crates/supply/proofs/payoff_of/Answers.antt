@@ -12,7 +12,7 @@ loop-i-preserved c =
     let l = c.loop-i in
     let z = c.args in
     let e = c.is_member.ensures in
-    let step = sum_more (z.buyers + 1) l.i c.loop-i-test.true (only (member z.k) (payoff_at z.payoffs.now)) l.total
+    let step = sum_more (z.buyers + 1) l.i (omega arith) (only (member z.k) (payoff_at z.payoffs.now)) l.total
     c.if-is_member.total _ l.invariant.0 in
     elim c.if-is_member.branch [
       | then-is_member w ↦ (

@@ -18,7 +18,6 @@ lower_payoffs-requires c =
     let E = a.self.now.economies in
     let small = c.requires.2 in (
       E.few.0,
-      small.long.payoffs,
       small.payoffs,
       lowest_keens E.buyers E.last c.supplied-words.result a.kept.now.payoffs _ (sym c.in-Some.ensures.is),
     )
@@ -30,7 +29,6 @@ raise_gains-requires c =
     let small = c.requires.2 in (
       E.few.0,
       lowest_below E.buyers E.last c.supplied-words.result a.kept.now.payoffs _ (sym c.in-Some.ensures.is),
-      small.long.gains,
       small.gains,
     )
 
@@ -40,7 +38,6 @@ raise_revenues-requires c =
     let E = a.self.now.economies in
     let small = c.requires.2 in (
       lowest_below E.buyers E.last c.supplied-words.result a.kept.now.payoffs _ (sym c.in-Some.ensures.is),
-      small.long.revenues,
       small.revenues,
     )
 
@@ -52,10 +49,5 @@ returns c =
     turn_some E.buyers E.last V.bundles E.few.0 a.self.now.two V.whole.1 V.worths.now a.prices.now a.kept.now
     c.supplied-words.result c.supplied-words.ensures c.in-Some.set c.in-Some.ensures.is a.rest.now _ _ _
     c.note.ensures c.raise.ensures
-    (record {
-      payoffs = c.lower_payoffs.ensures.0;
-      gains = c.raise_gains.ensures.0;
-      revenues = c.raise_revenues.ensures.0;
-    })
     c.lower_payoffs.ensures.1 c.lower_payoffs.ensures.2 c.raise_gains.ensures.1
     c.raise_revenues.ensures.1

@@ -1,5 +1,4 @@
 -- `rounds::Terms::tables` meets its contract.
-use Rattle.std.proofs.Common.{arith}
 use Rattle.supply.proofs.Keeping.{keeps_start}
 use Rattle.rounds.proofs.Terms.tables.Goals as goal
 
@@ -15,10 +14,4 @@ returns c =
           keeps_start E.buyers E.last c.args.values.now payoffs.result gains.result revenues.result
           payoffs.ensures.0 gains.ensures revenues.ensures;
       prices = c.requires.2;
-      long =
-          record {
-            payoffs = omega (arith, payoffs.type_inv);
-            gains = omega (arith, gains.type_inv);
-            revenues = omega (arith, revenues.type_inv);
-          };
     }
