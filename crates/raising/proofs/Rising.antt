@@ -17,12 +17,11 @@ use Rattle.theory.specs.Markets.{Table}
 use Rattle.theory.proofs.Tests.{by_test}
 use Rattle.theory.proofs.Sums.{when_one}
 use Rattle.theory.proofs.Lists.{tabulate-at, tabulate-length, tabulate_same}
-use Rattle.theory.proofs.Loops.{Filled, filled_more, filled_all}
+use Rattle.theory.proofs.Loops.{Filled, filled_all}
 use Rattle.owners.specs.Owners.{member}
 use Rattle.owners.specs.Prices.{buyer_rows}
 use Rattle.owners.specs.Quick.{left, rising, raised_by}
 use Rattle.owners.specs.Singles.{worth_table, AtMost}
-use Rattle.supply.specs.Supply.{payoff_at}
 use Rattle.raising.specs.Raising.{raised_row}
 
 -- the payoff of a bundle that is not empty
@@ -35,27 +34,6 @@ payoff-some top ws ps i w p h ew ep = rw (ew, ep, ne_eqb top 0 (λ z. omega arit
 pub record Reading (top : ℕ) (ws ps : List ℕ) (i : ℕ) (r : List ℕ) : Type 0 where
   pub filled : Filled (λ j. left (buyer_rows 6) (worth_table ws) top ps (j + 1)) 6 i r
   pub small : AtMost 9999 r
-
-set_small : (l : List ℕ) (i x c : ℕ) → i < length l → x ≤ c → AtMost c l → AtMost c (set l i x)
-set_small l i x c h lx small j =
-    elim (ℕ_discrete i j) [
-      | yes e ↦ rw (← e, get_or-set_same l i x 0 h) lx
-      | no e ↦ rw (get_or-set_other l i j x 0 (λ q. e (sym q))) (small j)
-    ]
-
-pub read_next : {top : ℕ} {ws ps : List ℕ} {i : ℕ} {r : List ℕ} (x : ℕ) → Reading top ws ps i r → i < 6 →
-    x ≡ left (buyer_rows 6) (worth_table ws) top ps (i + 1) → x ≤ 9999 → Reading top ws ps (i + 1) (set r i x)
-read_next {i = i} {r} x g h ex lx =
-    record {
-      filled = filled_more _ 6 i x r h ex g.filled;
-      small = set_small r i x 9999 (omega (arith, g.filled.long)) lx g.small;
-    }
-
-pub read_end : {top : ℕ} {ws ps : List ℕ} {i : ℕ} {r : List ℕ} (m : ℕ) → Reading top ws ps i r → m ≤ i →
-    (j : ℕ) → 1 ≤ j → j ≤ m → payoff_at r j ≡ left (buyer_rows 6) (worth_table ws) top ps j
-read_end {top} {ws} {ps} m g h j lo hi =
-    let e : j - 1 + 1 ≡ j = omega arith in
-    g.filled.done (j - 1) (omega arith) ∙ ap (left (buyer_rows 6) (worth_table ws) top ps) e
 
 -- prices of which those rise by 1 whose row and bundle pass a test
 module _ (t : ℕ → ℕ → Bool) (ps : List ℕ) where

@@ -56,8 +56,8 @@ impl Terms<'_> {
         }
     }
 
-    // A round, with the rest of the record (rule 4.12): the set's number is its next byte. Where no set is undersupplied
-    // nothing changes, and the answer is yes.
+    // A round, with the rest of the record (rule 4.12): the set's number is its next byte. Where no set is
+    // undersupplied nothing changes, and the answer is yes.
     fn round(&self, prices: &mut [u16], kept: &mut Tables, rest: &mut [u8]) -> bool
         requires { Rows prices.old × AtMost 60000 prices.old
             × Small self.now.economies.buyers self.now.economies.last kept.old

@@ -32,7 +32,8 @@ overflow_sub-revenues c =
 -- the revenue of one economy more is raised
 step : (c : After-from) →
     Revised (Raised c.args.economies.buyers c.args.revenues.now c.args.words.now c.args.set) 7 c.args.revenues.now
-    (c.loop-e.e + 1) (set c.loop-e.revenues c.loop-e.e (at c.loop-e.revenues c.loop-e.e + c.common.result - c.from.result))
+    (c.loop-e.e + 1)
+    (set c.loop-e.revenues c.loop-e.e (at c.loop-e.revenues c.loop-e.e + c.common.result - c.from.result))
 step c =
     let l = c.loop-e in
     let a = c.args in
@@ -52,6 +53,9 @@ step c =
 
 pub loop-e-preserved : goal.loop-e-preserved
 loop-e-preserved c = step (goal.at.loop-e-preserved c).After-from
+
+pub returns : goal.returns
+returns c = (c.loop-e.invariant.long, λ e h. c.loop-e.invariant.done e (omega arith))
 
 pub returns-2 : goal.returns-2
 returns-2 c =

@@ -14,11 +14,12 @@ pub raise_row-requires : goal.raise_row-requires
 raise_row-requires c =
     let l = c.loop-i in
     let a = c.args in
+    let v = a.self.now in
     let π = payoff_at a.payoffs.now in
     let long : length l.prices ≡ 96 =
-    ap length l.invariant ∙ rows_long a.buyers a.self.now.bundles a.self.now.worths.now a.set π a.prices.now l.i in
+    ap length l.invariant ∙ rows_long a.buyers v.bundles v.worths.now a.set π a.prices.now l.i in
     let small : AtMost 60001 l.prices =
-    rw l.invariant (rows_small a.buyers a.self.now.bundles a.self.now.worths.now a.set π a.prices.now l.i 60000 c.requires.2) in
+    rw l.invariant (rows_small a.buyers v.bundles v.worths.now a.set π a.prices.now l.i 60000 c.requires.2) in
     (omega arith, omega arith, long, small)
 
 -- the row of one buyer more is raised
@@ -54,7 +55,7 @@ returns-after-is_member c =
 
 pub returns : goal.returns
 returns c =
-    let l = c.loop-i in
     let a = c.args in
-    l.invariant
-    ∙ rows_end a.buyers a.self.now.bundles a.self.now.worths.now a.set (payoff_at a.payoffs.now) a.prices.now l.i (omega arith)
+    let v = a.self.now in
+    c.loop-i.invariant
+    ∙ rows_end a.buyers v.bundles v.worths.now a.set (payoff_at a.payoffs.now) a.prices.now c.loop-i.i (omega arith)

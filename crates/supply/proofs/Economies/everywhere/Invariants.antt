@@ -1,5 +1,5 @@
--- `supply::Economies::everywhere` meets its contract. The invariant: a set is in the word, and in those of the economies
--- from e on, exactly if it is in all.
+-- `supply::Economies::everywhere` meets its contract. The invariant: a set is in the word, and in those of the
+-- economies from e on, exactly if it is in all.
 use Rattle.std.proofs.Common.{◌≡◌, ◌&&◌, List, Bool, ℕ, ◌+◌, ◌-◌, ◌<◌}
 use Rattle.theory.specs.Tests.{every}
 use Rattle.numbers.specs.Numbers.{bit}

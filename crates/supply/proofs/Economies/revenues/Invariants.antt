@@ -1,5 +1,5 @@
--- `supply::Economies::revenues` meets its contract. The invariant: the revenues of the economies before e stand in their
--- places.
+-- `supply::Economies::revenues` meets its contract. The invariant: the revenues of the economies before e stand in
+-- their places.
 use Rattle.theory.proofs.Loops.{Filled}
 use Rattle.supply.specs.Supply.{greatest}
 use Rattle.supply.proofs.Economies.revenues.Given as goal
