@@ -2,11 +2,11 @@
 #![tactic(auto)]
 
 ghost use Rattle.std.specs.Prelude.{◌≡◌, ℕ, ◌-◌, ◌^◌, ◌≤◌, ◌<◌, length};
+ghost use Rattle.numbers.specs.Numbers.{Is};
 ghost use Rattle.owners.specs.Owners.{member};
 ghost use Rattle.owners.specs.Prices.{buyer_rows};
 ghost use Rattle.owners.specs.Quick.{left, raised_by};
 ghost use Rattle.owners.specs.Singles.{worth_table, AtMost};
-ghost use Rattle.numbers.specs.Numbers.{Is};
 ghost use Rattle.supply.specs.Supply.{payoff_at, NextPayoffs, NextGains, NextRevenues, KeenMembers, SmallGains};
 ghost use Rattle.supply.specs.Supply.{SmallRevenues};
 ghost use Rattle.raising.specs.Raising.{Rows, raised_row, Common, AllBut};
@@ -14,7 +14,7 @@ ghost use Rattle.raising.specs.Raising.{Rows, raised_row, Common, AllBut};
 use numbers::{has, power};
 use supply::{Economies, is_member, sets_of};
 
-// Worths, lent: six rows of sixteen numbers, of which a buyer's row has as many as there are bundles.
+// Worths, lent: a row of sixteen numbers for each of six buyers, by bundles; and how many bundles there are.
 #[derive(Clone, Copy)]
 pub struct Valuations<'a> {
     pub worths: &'a [u16],

@@ -2,7 +2,7 @@
 // keeps from round to round. A set of sets is a word of 64 bits: bit n is for the set of number n.
 #![tactic(auto)]
 
-ghost use Rattle.std.specs.Prelude.{◌≡◌, true, not, ◌&&◌, ◌+◌, ◌^◌, ◌≤◌, ◌<◌, length};
+ghost use Rattle.std.specs.Prelude.{◌≡◌, true, not, ◌&&◌, ◌+◌, ◌^◌, ◌≤◌, ◌<◌};
 ghost use Rattle.theory.specs.Tests.{every, least};
 ghost use Rattle.theory.specs.Coalitions.{payoff_of, inside, covers};
 ghost use Rattle.numbers.specs.Numbers.{Is, bit};
