@@ -2,12 +2,14 @@
 // owner list of greatest total, and what each buyer pays.
 #![tactic(auto)]
 
-ghost use Rattle.std.specs.Prelude.{◌≡◌, ℕ, ◌*◌, ◌≤◌, length};
-ghost use Rattle.owners.specs.Prices.{rows};
-ghost use Rattle.sheet.specs.Questions.{fault};
+ghost use Rattle.std.specs.Prelude.{◌≡◌, ℕ};
+ghost use Rattle.sheet.specs.Refusals.{fault_of, told};
 ghost use Rattle.offers.specs.Offers.{Offer};
 ghost use Rattle.lists.specs.Words.{Lent};
 ghost use Rattle.direct.specs.Answers.{refused_direct, reckoned, direct_answer};
+
+use sheet::{Fault, Refusal};
+use tables::{Bidders, Table};
 
 // A refusal, or the greatest total worth, its first owner list, and the payments.
 #[repr(C)]
@@ -20,49 +22,61 @@ pub struct Direct {
     pub payments: [u32; 6],
 }
 
-fn refused_direct(number: u8, place: u32) -> Direct
-    ensures { result ≡ refused_direct (fault number place) }
-{
-    Direct {
-        number,
-        place,
-        total: 0,
-        owners: [0; 4],
-        payments: [0; 6],
+impl From<Refusal> for Direct {
+    ghost from_gives = { λ refusal direct. direct ≡ refused_direct (fault_of refusal) };
+
+    fn from(refusal: Refusal) -> Self {
+        let fault = Fault::from(refusal);
+        Direct {
+            number: fault.number,
+            place: fault.place,
+            total: 0,
+            owners: [0; 4],
+            payments: [0; 6],
+        }
     }
 }
 
-// The direct way by the words of all allocations.
-fn reckon(list: &[u64], worths: &[u16], low: usize, buyers: usize) -> Direct
-    requires { (low ≤ 1) × (buyers ≤ 6) × (16 * rows low ≤ length worths.now) }
-    ensures { (O : Offer) → (all : ℕ) → Lent O list.now worths.now low buyers all →
+// The direct way by the words of all allocations, with the worths.
+fn reckon(list: &[u64], worths: &Table<'_>) -> Direct
+    ensures { (O : Offer) → (all : ℕ) →
+        Lent O list.now worths.now.numbers.now worths.now.bidders.low worths.now.bidders.buyers all →
         result ≡ reckoned O }
 {
-    let greatest = totals::greatest_totals(list, worths, low, buyers);
-    let word = totals::first_of_total(list, worths, low, buyers, greatest[0]);
+    let greatest = totals::greatest_totals(list, worths);
+    let word = totals::first_of_total(list, worths, greatest[0]).unwrap_or(0);
     let owners = lists::owners_of(word);
-    let due = totals::payments(greatest, worths, buyers, word);
+    let payments = totals::payments(greatest, worths, word);
     Direct {
         number: 0,
         place: 0,
         total: greatest[0],
         owners,
-        payments: due,
+        payments,
     }
+}
+
+// The direct way, or why the sheet is refused.
+fn try_reckon(sheet: &[u8]) -> Result<Direct, Refusal>
+    ensures { told refused_direct result ≡ direct_answer sheet.now }
+{
+    let sheet = reading::read(sheet)?;
+    let bidders = Bidders {
+        low: 1,
+        buyers: sheet.size.buyers,
+    };
+    let worths = Table {
+        bidders,
+        numbers: &sheet.worths,
+    };
+    let mut words = [0; 2401];
+    let list = lists::listed(sheet.size.buyers, sheet.size.lots, &mut words);
+    Ok(reckon(list, &worths))
 }
 
 // Reckons the sale of a sheet directly. There are no prices and no record.
 pub fn direct_way(sheet: &[u8]) -> Direct
     ensures { result ≡ direct_answer sheet.now }
 {
-    let read = reading::read_worths(sheet);
-    if read.number != 0 {
-        return refused_direct(read.number, read.place);
-    }
-    let worths = read.worths;
-    let m = read.buyers as usize;
-    let n = read.lots as usize;
-    let mut words = [0u64; 2401];
-    let count = lists::list_lots(m, n, &mut words);
-    reckon(&words[..count], &worths, 1, m)
+    try_reckon(sheet).unwrap_or_else(Direct::from)
 }
