@@ -16,12 +16,15 @@ use Rattle.owners.proofs.Sales.{begins}
 use Rattle.closing.specs.declared.Closing.{Closing}
 use Rattle.closing.specs.Closings.{sale_closing}
 use Rattle.rounds.specs.Rounds.{Opens, OwnPrices, Sold}
-use Rattle.sheet.specs.declared.Worths.{Worths}
+use Rattle.std.specs.Prelude.{Ok, Err}
+use Rattle.sheet.specs.declared.LotSheet.{LotSheet}
+use Rattle.sheet.specs.declared.Refusal.{Refusal}
 use Rattle.sheet.specs.Sheets.{Sheet}
 use Rattle.sheet.specs.Questions.{fault}
-use Rattle.sheet.specs.Answers.{worths_read}
-use Rattle.reading.proofs.Reading.{read_refused}
-use Rattle.reading.proofs.Told.{sheet_no, sheet_none, sheet_yes, sheet_read_lem}
+use Rattle.sheet.specs.Refusals.{fault_of}
+use Rattle.sheet.specs.Answers.{read_as, worths_read}
+use Rattle.reading.proofs.Told.{refused_fault, refused_sheet_no}
+use Rattle.reading.proofs.Told.{accepted_sheet_yes, accepted_sheet_none, accepted_sheet}
 use Rattle.offers.specs.Offers.{Offer, lots_among, lots_of, offer_of, layout, worth_of, the_auction}
 use Rattle.offers.specs.Rounds.{round_limit, start_prices, sets_from, sale_sets, last_prices}
 use Rattle.offers.specs.Claims.{Regular}
@@ -83,63 +86,63 @@ sold_settled m n ws l o ps o' f all k sells words bundles ef sells_so c closes a
           ∙ ap (λ f. over (sets_from O m (start_prices O) f) o) ef,
     )
 
-module _ (b : List ℕ) (r : Worths) (e : r ≡ worths_read b) where
-  pub sale_refused : (o : List ℕ) → (r.number ≡ 0 → ⊥) → (s : Sale) →
-      s ≡ refused_sale (fault r.number r.place) → SaleSays b o o s
+module _ (b : List ℕ) (r : Refusal) (e : read_as (Err r) ≡ worths_read b) where
+  pub sale_refused : (o : List ℕ) → (s : Sale) →
+      s ≡ refused_sale (fault_of r) → SaleSays b o o s
   unfolding sale_answer sale_record
-  sale_refused o h s q =
-      let no = sheet_no b r e h in
-      record { answer = rw (no, no) (q ∙ ap refused_sale (read_refused b r e)); bytes = rw (no, no) refl }
+  sale_refused o s q =
+      let no = refused_sheet_no b r e in
+      record { answer = rw (no, no) (q ∙ ap refused_sale (refused_fault b r e)); bytes = rw (no, no) refl }
 
-  module _ (z : r.number ≡ 0) where
-    abbrev O : Offer
-    O = lots_among r.buyers r.lots r.worths
+module _ (b : List ℕ) (t : LotSheet) (e : read_as (Ok t) ≡ worths_read b) where
+  abbrev O : Offer
+  O = lots_among t.size.buyers t.size.lots t.worths
 
-    pub same : O ≡ offer_of b
-    same = ap lots_of (sheet_read_lem b r e z)
+  pub same : O ≡ offer_of b
+  same = ap lots_of (accepted_sheet b t e)
 
-    pub asked : Sells r.buyers r.lots r.worths
-    asked =
-        let none = sheet_none b r e z in
-        let s = shape b none in
-        subst (λ (w : Sheet). Sells w.buyers w.lots w.worths) (sym (sheet_read_lem b r e z))
-        (record {
-          few_buyers = s.few_buyers;
-          some_lots = s.some_lots;
-          few_lots = s.few_lots;
-          worths = s.long;
-          small = s.small;
-          topped = topped b none;
-        })
+  pub asked : Sells t.size.buyers t.size.lots t.worths
+  asked =
+      let none = accepted_sheet_none b t e in
+      let s = shape b none in
+      subst (λ (w : Sheet). Sells w.buyers w.lots w.worths) (sym (accepted_sheet b t e))
+      (record {
+        few_buyers = s.few_buyers;
+        some_lots = s.some_lots;
+        few_lots = s.few_lots;
+        worths = s.long;
+        small = s.small;
+        topped = topped b none;
+      })
 
-    -- l is question 9's sum as it was reckoned
-    module _ (l : ℕ) (el : l ≡ limit_by 1 r.buyers (2 ^ r.lots) r.worths) where
-      pub limit_is : l ≡ round_limit O
-      limit_is =
-          el ∙ limit_found O (lots_packed r.buyers r.lots r.worths asked.few_buyers asked.few_lots)
+  -- l is question 9's sum as it was reckoned
+  module _ (l : ℕ) (el : l ≡ limit_by 1 t.size.buyers (2 ^ t.size.lots) t.worths) where
+    pub limit_is : l ≡ round_limit O
+    limit_is =
+        el ∙ limit_found O (lots_packed t.size.buyers t.size.lots t.worths asked.few_buyers asked.few_lots)
 
-      same_limit : l ≡ round_limit (offer_of b)
-      same_limit = limit_is ∙ ap round_limit same
+    same_limit : l ≡ round_limit (offer_of b)
+    same_limit = limit_is ∙ ap round_limit same
 
-      module _ (o : List ℕ) where
-        pub record_short : length o < l → (s : Sale) → s ≡ refused_sale (fault 9 0) → SaleSays b o o s
+    module _ (o : List ℕ) where
+      pub record_short : length o < l → (s : Sale) → s ≡ refused_sale (fault 9 0) → SaleSays b o o s
+      unfolding sale_answer sale_record
+      record_short h s q =
+          let yes = accepted_sheet_yes b t e in
+          let no_room : leb (round_limit (offer_of b)) (length o) ≡ false =
+          lt-leb (round_limit (offer_of b)) (length o) (omega (arith, same_limit)) in
+          record { answer = rw (yes, no_room) q; bytes = rw (yes, no_room) refl }
+
+      module _ (room : l ≤ length o) where
+        enough : leb (round_limit (offer_of b)) (length o) ≡ true
+        enough = le-leb (round_limit (offer_of b)) (length o) (omega (arith, same_limit))
+
+        pub sale_settled : (a : Sale) (o' : List ℕ) → (a ≡ settled_sale O) × (o' ≡ over (sale_sets O) o) →
+            SaleSays b o o' a
         unfolding sale_answer sale_record
-        record_short h s q =
-            let yes = sheet_yes b r e z in
-            let no_room : leb (round_limit (offer_of b)) (length o) ≡ false =
-            lt-leb (round_limit (offer_of b)) (length o) (omega (arith, same_limit)) in
-            record { answer = rw (yes, no_room) q; bytes = rw (yes, no_room) refl }
-
-        module _ (room : l ≤ length o) where
-          enough : leb (round_limit (offer_of b)) (length o) ≡ true
-          enough = le-leb (round_limit (offer_of b)) (length o) (omega (arith, same_limit))
-
-          pub sale_settled : (a : Sale) (o' : List ℕ) → (a ≡ settled_sale O) × (o' ≡ over (sale_sets O) o) →
-              SaleSays b o o' a
-          unfolding sale_answer sale_record
-          sale_settled a o' (ea, eo) =
-              let yes = sheet_yes b r e z in
-              record {
-                answer = rw (yes, enough) (ea ∙ ap settled_sale same);
-                bytes = rw (yes, enough) (eo ∙ ap (λ O. over (sale_sets O) o) same);
-              }
+        sale_settled a o' (ea, eo) =
+            let yes = accepted_sheet_yes b t e in
+            record {
+              answer = rw (yes, enough) (ea ∙ ap settled_sale same);
+              bytes = rw (yes, enough) (eo ∙ ap (λ O. over (sale_sets O) o) same);
+            }
