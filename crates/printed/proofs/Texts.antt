@@ -28,7 +28,7 @@ use Rattle.offers.proofs.Lots.{shape}
 use Rattle.sale.proofs.Opening.{sale_number}
 use Rattle.promises.specs.Claims.{unplaced}
 use Rattle.promises.proofs.First.{refusals_hold}
-use Rattle.printed.specs.declared.Text.{Text}
+use Rattle.printing.specs.declared.Text.{Text}
 use Rattle.printed.specs.Printed.{printed, settled_text, refused_text, printed_sale, Puts, PrintSays, PrintsSale}
 use Rattle.printed.specs.Printed.{text_of, Prints}
 use Rattle.printed.proofs.Fits.{limit_low, sale_asked, sale_first, prints_fit, never_nine}
@@ -105,9 +105,9 @@ text_told b o o' t t' r says long room zeros =
     ap₂ (λ x k. record { bytes = x; length = k }) (whole.1 ∙ ap (over (printed_sale b)) zeros) whole.0
 
 -- its length lies within its bytes
-pub text_within : (b : List ℕ) (r : Text) → r ≡ text_of b → r.length ≤ length r.bytes
+pub text_within : (b : List ℕ) (r : Text 227) → r ≡ text_of b → r.length ≤ length r.bytes
 text_within b r e =
-    subst (λ (x : Text). x.length ≤ length x.bytes) (sym e) (front_within (printed_sale b) 227 (longest b))
+    subst (λ (x : Text 227). x.length ≤ length x.bytes) (sym e) (front_within (printed_sale b) 227 (longest b))
 
 -- demand 1
 refused_print : (b o o' : List ℕ) (r : Sale) → SaleSays b o o' r → r.number ≢ 0 →

@@ -13,7 +13,7 @@ use Rattle.offers.specs.Offers.{offer_of}
 use Rattle.offers.specs.Rounds.{round_limit}
 use Rattle.sale.specs.Answers.{sale_fault, settled_sale, sale_answer, sale_record, SaleSays}
 use Rattle.promises.specs.Claims.{Own, unplaced, Numbered}
-use Rattle.printed.specs.declared.Text.{Text}
+use Rattle.printing.specs.declared.Text.{Text}
 
 -- rule 6.3: the line of a lot; lots are counted from 0 here
 abbrev pub lot_line : List ℕ → ℕ → List ℕ
@@ -73,7 +73,7 @@ pub record PrintSays (b o o' t t' : List ℕ) (r : ℕ) : Type 0 where
   pub prints : Puts (printed (sale_answer b (length o))) t t' r
 
 -- a sheet's text at the front of 227 bytes, of which the others are 0
-abbrev pub text_of : List ℕ → Text
+abbrev pub text_of : List ℕ → Text 227
 text_of b = record { bytes = over (printed_sale b) (replicate 227 0); length = length (printed_sale b) }
 
 -- demand 1 of the entries that print: they print a sale's answer, with a sale's number and place; a refusal is one

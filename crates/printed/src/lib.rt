@@ -1,99 +1,67 @@
 // A sale printed in lines of fields.
 #![tactic(auto)]
 
-ghost use Rattle.std.specs.Prelude.{◌≡◌, [], ◌∷◌, ◌*◌, ◌≤◌, ◌<◌, length};
+ghost use Rattle.std.specs.Prelude.{◌≡◌, unwrap_or, [], ◌∷◌, ◌*◌, ◌≤◌, ◌<◌, length};
 ghost use Rattle.theory.specs.Lists.{tabulate, over};
-ghost use Rattle.numbers.specs.Numbers.{Is};
 ghost use Rattle.fields.specs.Fields.{line_of, lines_of};
 ghost use Rattle.printed.specs.Printed.{lot_line, buyer_line, settled_text, Printable, Puts, PrintSays, text_of};
 ghost use Rattle.printed.specs.Printed.{Prints};
 
-use printing::put_line;
+use printing::{Text, put_line};
 use sale::Sale;
-
-// A printed sale, which has at most 227 bytes.
-#[derive(Drop)]
-pub struct Text {
-    pub bytes: [u8; 227],
-    pub length: usize,
-}
-
-// An owner as a wider number.
-fn number(x: u8) -> u32
-    ensures { Is x result 255 }
-{
-    x as u32
-}
+use sheet::Fault;
 
 // The lines of the lots, at the front of a buffer.
 fn put_lots(out: &mut [u8], owners: [u8; 4], lots: usize)
     requires { (lots ≤ 4) × (13 * lots ≤ length out.old) }
     ensures { out.new ≡ over (lines_of (tabulate lots 0 (lot_line owners))) out.old }
 {
-    let mut j: usize = 0;
-    while j < lots {
-        let at = 13 * j;
-        let lot = (j + 1) as u32;
-        let owner = number(owners[j]);
-        let line = [lot, owner];
-        put_line(&mut out[at..], &line);
-        j += 1;
+    for j in 0..lots {
+        put_line(&mut out[13 * j..], &[j as u32 + 1, u32::from(owners[j])]);
     }
 }
 
 // The lines of the buyers, at the front of a buffer.
-fn put_buyers(out: &mut [u8], r: Sale)
-    requires { Printable r × (25 * r.buyers ≤ length out.old) }
-    ensures { out.new ≡ over (lines_of (tabulate r.buyers 0 (buyer_line r))) out.old }
+fn put_buyers(out: &mut [u8], r: &Sale)
+    requires { Printable r.now × (25 * r.now.buyers ≤ length out.old) }
+    ensures { out.new ≡ over (lines_of (tabulate r.now.buyers 0 (buyer_line r.now))) out.old }
 {
-    let owners = r.owners;
-    let prices = r.prices;
-    let m = r.buyers as usize;
-    let n = r.lots as usize;
-    let mut i: usize = 0;
-    while i < m {
-        let at = 25 * i;
-        let s = lists::bundle_of(owners, n, i + 1);
-        let p = tables::entry(&prices, i + 1, s);
-        let buyer = (i + 1) as u32;
-        let d = r.discounts[i];
-        let due = r.payments[i];
-        let line = [buyer, p, d, due];
-        put_line(&mut out[at..], &line);
-        i += 1;
+    let lots = r.lots as usize;
+    for i in 0..r.buyers as usize {
+        let s = lists::bundle_of(r.owners, lots, i + 1);
+        let p = tables::entry(&r.prices, i + 1, s);
+        let line = [i as u32 + 1, p, r.discounts[i], r.payments[i]];
+        put_line(&mut out[25 * i..], &line);
     }
 }
 
-// Prints a refusal: the length of what is printed, or 0 where it has no room.
-fn put_refusal(out: &mut [u8], number: u32, place: u32) -> usize
-    requires { (number < 1000000) × (place < 1000000) }
-    ensures { Puts (line_of (number ∷ place ∷ [])) out.old out.new result }
+// Prints a refusal: the length of what is printed, or none where it has no room.
+fn put_refusal(out: &mut [u8], fault: Fault) -> Option<usize>
+    requires { fault.place < 1000000 }
+    ensures { Puts (line_of (fault.number ∷ fault.place ∷ [])) out.old out.new (unwrap_or result 0) }
 {
     if out.len() < 13 {
-        return 0;
+        return None;
     }
-    let line = [number, place];
-    put_line(out, &line);
-    13
+    put_line(out, &[fault.number as u32, fault.place]);
+    Some(13)
 }
 
 // Prints a settled sale, in the same way.
-fn put_settled(out: &mut [u8], r: Sale) -> usize
-    requires { Printable r }
-    ensures { Puts (settled_text r) out.old out.new result }
+fn put_settled(out: &mut [u8], r: &Sale) -> Option<usize>
+    requires { Printable r.now }
+    ensures { Puts (settled_text r.now) out.old out.new (unwrap_or result 0) }
 {
-    let owners = r.owners;
-    let n = r.lots as usize;
-    let at = 25 + 13 * n;
+    let lots = r.lots as usize;
+    let at = 25 + 13 * lots;
     let end = at + 25 * (r.buyers as usize);
     if out.len() < end {
-        return 0;
+        return None;
     }
-    let first = [0, r.buyers as u32, r.lots as u32, r.rounds];
-    put_line(out, &first);
-    put_lots(&mut out[25..], owners, n);
+    put_line(out, &[0, r.buyers as u32, r.lots as u32, r.rounds]);
+    put_lots(&mut out[25..], r.owners, lots);
     put_buyers(&mut out[at..], r);
-    end
+    Some(end)
 }
 
 // Runs the sale of a sheet, with a record as `run_sale` has it, and prints its answer: the length of what is printed,
@@ -101,19 +69,19 @@ fn put_settled(out: &mut [u8], r: Sale) -> usize
 pub fn print_sale(sheet: &[u8], log: &mut [u8], out: &mut [u8]) -> usize
     ensures { PrintSays sheet.now log.old log.new out.old out.new result }
 {
-    let r = selling::run_sale(sheet, log);
-    if r.number != 0 {
-        return put_refusal(out, r.number as u32, r.place);
-    }
-    put_settled(out, r)
+    let printed = match selling::try_sell(sheet, log) {
+        Ok(sale) => put_settled(out, &sale),
+        Err(refusal) => put_refusal(out, Fault::from(refusal)),
+    };
+    printed.unwrap_or(0)
 }
 
 // The printed sale of a sheet, with a record of its own that every sale has room in.
-pub fn sale_text(sheet: &[u8]) -> Text
+pub fn sale_text(sheet: &[u8]) -> Text<227>
     ensures { result ≡ text_of sheet.now }
 {
-    let mut log = [0u8; 59994];
-    let mut bytes = [0u8; 227];
+    let mut log = [0; 59994];
+    let mut bytes = [0; 227];
     let length = print_sale(sheet, &mut log, &mut bytes);
     Text { bytes, length }
 }

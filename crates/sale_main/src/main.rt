@@ -5,7 +5,5 @@ fn main() {
     let mut sheet = [0u8; 560];
     let n = io::read_full(0, &mut sheet);
     let text = printed::sale_text(&sheet[..n]);
-    let bytes = text.bytes;
-    let k = text.length;
-    io::write_all(1, &bytes[..k]);
+    io::write_all(1, text.as_bytes());
 }

@@ -1,7 +1,7 @@
 // Sales by rounds of a lot sheet, demand answers, and whether prices are settled.
 #![tactic(auto)]
 
-ghost use Rattle.std.specs.Prelude.{◌≡◌, ◌≤◌, length};
+ghost use Rattle.std.specs.Prelude.{◌≡◌, ◌≤◌, length, IfOk};
 ghost use Rattle.theory.specs.Lists.{over};
 ghost use Rattle.offers.specs.Offers.{lots_among};
 ghost use Rattle.offers.specs.Rounds.{round_limit, sale_sets};
@@ -118,7 +118,8 @@ fn sell(list: &[u64], sheet: &LotSheet, log: &mut [u8], limit: u32) -> Sale
 
 // The settled sale of a sheet, or why it is refused; the record has the rounds, or is as it was.
 pub fn try_sell(sheet: &[u8], log: &mut [u8]) -> Result<Sale, Refusal>
-    ensures { SaleSays sheet.now log.old log.new (told refused_sale result) }
+    ensures says { SaleSays sheet.now log.old log.new (told refused_sale result) }
+    ensures settled { IfOk result (λ sale. sale.number ≡ 0) }
 {
     let sheet = reading::read(sheet)?;
     let bidders = Bidders {

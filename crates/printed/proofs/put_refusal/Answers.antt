@@ -7,11 +7,11 @@ use Rattle.printed.proofs.put_refusal.Goals as goal
 
 pub returns-then-out-lt13 : goal.returns-then-out-lt13
 returns-then-out-lt13 c =
-    let vs = c.args.number ∷ c.args.place ∷ [] in
+    let vs = c.args.fault.number ∷ c.args.fault.place ∷ [] in
     puts_none (line_of vs) c.args.out.now (omega (arith, line-length vs, c.if-out-lt13.true))
 
 pub returns : goal.returns
 returns c =
-    let vs = c.args.number ∷ c.args.place ∷ [] in
+    let vs = c.args.fault.number ∷ c.args.fault.place ∷ [] in
     puts_whole (line_of vs) c.args.out.now _ 13 (omega (arith, line-length vs, c.if-out-lt13.false))
     (sym (line-length vs)) c.put_line.ensures
