@@ -11,7 +11,6 @@ ghost use Rattle.trial.specs.Answers.{TrialSays};
 ghost use Rattle.hokewhuni.specs.Boundary.{field_answer};
 
 use direct::Direct;
-use fields::Field;
 use sale::{Demand, Sale, Settled};
 use sheet::{Read, Worths};
 use writing::Wrote;
@@ -29,18 +28,14 @@ pub fn hokewhuni_read_field(sheet: &[u8], at: usize) -> FieldAnswer
     ensures { result ≡ field_answer sheet.now at }
 {
     let r = fields::read_field(sheet, at);
-    let f = r.field;
-    match f {
-        Field::Number(v) => FieldAnswer {
-            next: r.next,
-            number: 0,
-            value: v as usize,
-        },
-        Field::Faulty(c) => FieldAnswer {
-            next: r.next,
-            number: 6,
-            value: c,
-        },
+    let (number, value) = match r.field {
+        Ok(v) => (0, v as usize),
+        Err(c) => (6, c),
+    };
+    FieldAnswer {
+        next: r.next,
+        number,
+        value,
     }
 }
 
