@@ -88,7 +88,7 @@ pub fn code(line: &str) -> &str {
 
 /// What stands between blanks and punctuation.
 pub fn parts(code: &str) -> impl Iterator<Item = &str> {
-    code.split(|c: char| c.is_whitespace() || "(){},;.&*!:".contains(c))
+    code.split(|c: char| c.is_whitespace() || "(){},;.&*!:<>".contains(c))
 }
 
 /// The words of a line before its comment.
