@@ -2,7 +2,7 @@
 -- `column_blank`), one column more (`put_next`), and the end (`put_all`).
 use mathlib.Core.Path.{◌≡◌, refl, sym, ap, ◌∙◌}
 use mathlib.Core.List.{List, [], ◌∷◌, ◌++◌, append_assoc}
-use Prim.Native.Nat.{ℕ, zero, suc, ◌+◌, ◌-◌, ◌/◌, ◌%◌, ◌^◌, ◌≤◌, ◌<◌}
+use Prim.Native.Nat.{ℕ, suc, ◌+◌, ◌-◌, ◌/◌, ◌%◌, ◌^◌, ◌≤◌, ◌<◌}
 use native.Mathlib.Nat.{div-div-eq-div-mul, pow-suc}
 use native.Mathlib.Numerals.{add-one}
 use native.Mathlib.Omega.{arith}
@@ -15,10 +15,6 @@ use Rattle.theory.proofs.Tests.{by_test}
 use Rattle.fields.specs.Fields.{columns}
 use Rattle.fields.proofs.Digits.{column, each_column, columns_each}
 use Rattle.fields.proofs.Lines.{columns-length}
-
-each-length : (k n : ℕ) → length (each_column k n) ≡ k
-each-length zero n = refl
-each-length (suc k) n = ap suc (each-length k n)
 
 -- the list o with the last k of the six columns of n
 abbrev pub last_put : ℕ → List ℕ → ℕ → List ℕ

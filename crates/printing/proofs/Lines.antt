@@ -11,7 +11,7 @@ use lib.Seq.{take-suc, length-take-le}
 use borrow.Rule.Slice.PartMut.{put_mid}
 use Rattle.theory.specs.Lists.{tabulate, over}
 use Rattle.theory.proofs.Lists.{tabulate-last}
-use Rattle.theory.proofs.Over.{over_long, over_more, over_then}
+use Rattle.theory.proofs.Over.{over_more, over_then}
 use Rattle.fields.specs.Fields.{columns, fields_of, line_of, lines_of}
 use Rattle.fields.proofs.Lines.{columns-length, fields_length, fields_append, lines-append, lines-length}
 
@@ -41,10 +41,6 @@ module _ (ns o : List ℕ) (k : ℕ) (l : List ℕ) (e : l ≡ over (fields_of (
 -- lines of the same length, one after another
 module _ (f : ℕ → List ℕ) (wide : ℕ) (each : (i : ℕ) → length (line_of (f i)) ≡ wide) where
   module _ (o : List ℕ) (k : ℕ) (l : List ℕ) (e : l ≡ over (lines_of (tabulate k 0 f)) o) where
-    pub lines_long : wide * k ≤ length o → length l ≡ length o
-    lines_long room =
-        ap length e ∙ over_long (lines_of (tabulate k 0 f)) o (omega (arith, lines-length f wide each k 0))
-
     -- the buffer from line k on comes back with a line
     pub lines_more : wide * k + wide ≤ length o → (at : ℕ) → at ≡ wide * k → (last vs : List ℕ) → vs ≡ f k →
         last ≡ over (line_of vs) (take (length l - at) (drop at l)) →
