@@ -2,7 +2,6 @@
 -- (`says_written`), since that is asked as the trial is (`asked_alike`); and what `TrialSays` tells of an answer
 -- (`trial_told`, `told_writes`).
 use mathlib.Core.Path.{◌≡◌, sym, ap, ap₂, ◌∙◌}
-use mathlib.Core.Logic.{◌≢◌}
 use mathlib.Core.Bool.{true}
 use mathlib.Core.List.{List}
 use Prim.Native.Nat.{ℕ, zero, suc, ◌+◌, ◌-◌, ◌*◌, ◌^◌, ◌≤◌, ◌<◌}
@@ -13,18 +12,22 @@ use borrow.Author.Tests.{ne_eqb, le-leb, lt-leb}
 use Rattle.theory.specs.Sums.{pick, when}
 use Rattle.theory.specs.Lists.{over}
 use Rattle.sheet.specs.declared.Fault.{Fault}
+use Rattle.sheet.specs.declared.Refusal.{Refusal}
 use Rattle.sheet.specs.Sheets.{line_length}
 use Rattle.sheet.specs.Questions.{fault, ask, between}
+use Rattle.sheet.specs.Refusals.{fault_of}
 use Rattle.sheet.proofs.Faults.{between_means}
 use Rattle.writing.specs.declared.Wrote.{Wrote}
 use Rattle.writing.specs.Lists.{sheet_bytes}
-use Rattle.writing.specs.Answers.{write_fault, WriteSays}
+use Rattle.writing.specs.Answers.{write_fault, WriteSays, refused_wrote}
 use Rattle.writing.specs.Claims.{ListQuestion}
 use Rattle.writing.proofs.Answers.{wrote, answer_by, buffer_by, Told, told}
+use Rattle.writing.proofs.Asking.{refused_some}
 use Rattle.writing.proofs.Questions.{write_first_no, write_all_yes, write_place}
 use Rattle.trial.specs.Worths.{trial_list}
+use Rattle.trial.specs.Asked.{numbers_fault}
 use Rattle.trial.specs.Answers.{trial_fault, trial_bytes, TrialSays}
-use Rattle.trial.proofs.Asking.{room_asked}
+use Rattle.trial.proofs.Asking.{room_asked, numbers_bad}
 use Rattle.trial.proofs.Questions.{trial_all_yes, trial_place_none}
 use Rattle.trial.proofs.Tables.{trial_grows, list_length, list_small, list-worth}
 
@@ -78,12 +81,15 @@ module _ (N m n top : ℕ) (o : List ℕ) where
   abbrev b : List ℕ
   b = trial_bytes N m n top
 
-  pub says_refused : (k : ℕ) → f ≡ fault k 0 → k ≢ 0 → (r : Wrote) → r ≡ wrote k 0 0 → TrialSays N m n top o o r
-  says_refused k e h r is =
-      let t = ne_eqb k 0 h in
+  pub says_refused : (r : Refusal) → fault_of r ≡ numbers_fault m n top → TrialSays N m n top o o (refused_wrote r)
+  says_refused r e =
+      let is : fault_of r ≡ f = numbers_bad m n top (length o) r e in
+      let t = ne_eqb f.number 0 (λ z. refused_some r (ap (λ (g : Fault). g.number) is ∙ z)) in
       record {
-        answer = is ∙ ap (λ x. wrote k 0 (when x (length b))) (sym t) ∙ sym (ap (λ x. answer_by x b) e);
-        bytes = ap (λ x. pick x (over b o) o) (sym t) ∙ sym (ap (λ x. buffer_by x b o) e);
+        answer =
+            ap (λ (g : Fault). wrote g.number g.place 0) is
+            ∙ ap (λ x. wrote f.number f.place (when x (length b))) (sym t);
+        bytes = ap (λ x. pick x (over b o) o) (sym t);
       }
 
   pub says_written : between 6 m ≡ true → between 4 n ≡ true → top ≤ 9999 → (vs o' : List ℕ) (r : Wrote) →

@@ -5,6 +5,7 @@ use mathlib.Core.Path.{◌≡◌, refl, sym, ap, ◌∙◌}
 use mathlib.Core.Logic.{◌≢◌}
 use mathlib.Core.Bool.{Bool, true, false}
 use mathlib.Core.List.{List, [], ◌∷◌}
+use Rattle.std.specs.Prelude.{Result, Ok, Err}
 use Prim.Native.Nat.{ℕ, zero, suc, ◌*◌, ◌≤◌, ◌<◌}
 use native.Mathlib.Omega.{arith}
 use lib.Dec.{leb}
@@ -13,8 +14,6 @@ use borrow.Author.Tests.{eq-eqb, ne_eqb}
 use Rattle.theory.specs.Sums.{Among}
 use Rattle.theory.specs.Tests.{every}
 use Rattle.theory.proofs.Tests.{Means, fails, itself, and_means, eqb_means, leb_means, every_means}
-use Rattle.fields.specs.declared.Field.{Field}
-use Rattle.fields.specs.declared.Field.TheVariants.{Number, Faulty}
 use Rattle.fields.specs.Fields.{field_at, good, number_of, number_at, columns}
 use Rattle.fields.proofs.Canonical.{field_canonical}
 use Rattle.fields.proofs.Lines.{fields_length}
@@ -47,11 +46,11 @@ module _ (b : List ℕ) where
       and_means (eqb_means (length b) 24)
       (and_means (every_means 4 0 (λ k _. itself (good (field_at (6 * k) b)))) (leb_means (number_at 0 b) 65535))
 
-good-number : (f : Field) → good f ≡ true → f ≡ Number (number_of f)
-good-number (Number v) e = refl
-good-number (Faulty at) e = fails e refl
+good-number : (f : Result ℕ ℕ) → good f ≡ true → f ≡ Ok (number_of f)
+good-number (Ok v) e = refl
+good-number (Err at) e = fails e refl
 
-number_is : (f : Field) (v : ℕ) → f ≡ Number v → (good f ≡ true) × (number_of f ≡ v)
+number_is : (f : Result ℕ ℕ) (v : ℕ) → f ≡ Ok v → (good f ≡ true) × (number_of f ≡ v)
 number_is f v e = (ap good e, ap number_of e)
 
 -- the numbers that the bytes have

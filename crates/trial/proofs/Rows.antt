@@ -1,9 +1,9 @@
 -- A buyer's worths as they are drawn: how many they are (`row-length`), that those drawn once stay (`row_kept`), that
--- none is above 9,999 (`row_small`), and what `worth_without` answers on each way through (`without_lot`,
--- `without_all`, `without-some`).
+-- none is above 9,999 (`row_small`), and what `worth_without` answers of a lot that the bundle has (`without_all`,
+-- `without-some`).
 use mathlib.Core.Path.{◌≡◌, refl, sym, ap, ◌∙◌}
 use mathlib.Core.Logic.{◌≢◌, ⊎_elim}
-use mathlib.Core.Bool.{Bool, true, false}
+use mathlib.Core.Bool.{Bool, true}
 use mathlib.Core.List.{List, []}
 use Prim.Native.Nat.{ℕ, zero, suc, ◌-◌, ◌^◌, ◌≤◌, ◌<◌}
 use native.Mathlib.Nat.{eq-or-lt_of_le}
@@ -12,29 +12,21 @@ use native.Mathlib.Decide.{dec_lt}
 use lib.ListN.{length, get_or, length-append, get_or-append, get_or-eq_default}
 use lib.Seq.{get_or-append_seam}
 use Rattle.numbers.specs.Numbers.{bit, Is}
-use Rattle.numbers.proofs.Subsets.{bit_le}
 use Rattle.trial.specs.Worths.{row_worth, worth_without, drawn_worth, most_fewer, row_up_to}
 
--- what bundle s is worth without its lot j + 1; x says whether it has that lot
-module _ (row : List ℕ) (s j : ℕ) (x : Bool) (same : x ≡ bit j s) where
-  pub without_lot : x ≡ false → Is (worth_without (row_worth row) s j) 0 9999
-  without_lot e = record { is = rw (sym same ∙ e) refl; most = omega arith }
+-- what bundle s is worth without its lot j + 1
+module _ (row : List ℕ) (s j : ℕ) (x : Bool) (same : x ≡ bit j s) (e : x ≡ true) (p : ℕ) (power : p ≡ 2 ^ j) where
+  -- nothing is left
+  pub without_all : s - p ≡ 0 → Is (worth_without (row_worth row) s j) 0 9999
+  without_all z =
+      let none : s - 2 ^ j ≡ 0 = omega arith in
+      record { is = rw (sym same ∙ e, none) refl; most = omega arith }
 
-  module _ (e : x ≡ true) (p : ℕ) (power : p ≡ 2 ^ j) where
-    pub lot_below : p ≤ s
-    lot_below = omega (arith, bit_le j s (sym same ∙ e))
-
-    -- nothing is left
-    pub without_all : s - p ≡ 0 → Is (worth_without (row_worth row) s j) 0 9999
-    without_all z =
-        let none : s - 2 ^ j ≡ 0 = omega arith in
-        record { is = rw (sym same ∙ e, none) refl; most = omega arith }
-
-    pub without-some : ((k : ℕ) → get_or row k 0 ≤ 9999) → s - p ≢ 0 →
-        Is (worth_without (row_worth row) s j) (get_or row (s - p - 1) 0) 9999
-    without-some small some =
-        let rest : s - 2 ^ j ≡ suc (s - p - 1) = omega arith in
-        record { is = rw (sym same ∙ e, rest) refl; most = small (s - p - 1) }
+  pub without-some : ((k : ℕ) → get_or row k 0 ≤ 9999) → s - p ≢ 0 →
+      Is (worth_without (row_worth row) s j) (get_or row (s - p - 1) 0) 9999
+  without-some small some =
+      let rest : s - 2 ^ j ≡ suc (s - p - 1) = omega arith in
+      record { is = rw (sym same ∙ e, rest) refl; most = small (s - p - 1) }
 
 -- a buyer's worths
 module _ (n top : ℕ) (draws : ℕ → ℕ) where

@@ -1,7 +1,6 @@
--- What `text_of` answers, of a sheet that is written (`lines_written`) or refused (`lines_refused`); what is printed of
--- four numbers is what is written of them (`text_says`), and of other bytes nothing is (`text_typed`); it is never long
--- (`text_longest`, `text_within`).
-use mathlib.Core.Path.{◌≡◌, refl, sym, ap, ap₂, subst, ◌∙◌}
+-- What `text_of` answers, of a sheet that is written or refused (`lines_told`); what is printed of four numbers is what
+-- is written of them (`text_says`), and of other bytes nothing is (`text_typed`); it is never long (`text_longest`).
+use mathlib.Core.Path.{◌≡◌, refl, sym, ap, ap₂, ◌∙◌}
 use mathlib.Core.Logic.{◌≢◌}
 use mathlib.Core.Bool.{true, false}
 use mathlib.Core.List.{List, [], ◌∷◌}
@@ -15,14 +14,14 @@ use Rattle.theory.specs.Sums.{pick}
 use Rattle.theory.specs.Lists.{over}
 use Rattle.theory.proofs.Tests.{by_test}
 use Rattle.fields.specs.Fields.{line_of, number_at}
-use Rattle.theory.proofs.Over.{front_within}
 use Rattle.fields.proofs.Lines.{line-length}
 use Rattle.sheet.specs.declared.Fault.{Fault}
 use Rattle.sheet.specs.Sheets.{line_length}
 use Rattle.writing.specs.declared.Wrote.{Wrote}
-use Rattle.writing.specs.declared.SheetText.{SheetText}
+use Rattle.writing.specs.Answers.{text_in, wrote_text}
 use Rattle.writing.proofs.Answers.{sheet_length}
 use Rattle.writing.proofs.Limits.{bytes_small}
+use Rattle.writing.proofs.Texts.{text_is}
 use Rattle.trial.specs.Worths.{trial_list}
 use Rattle.trial.specs.Answers.{trial_fault, trial_bytes, TrialSays, trial_asked, trial_lines, trial_text, as_text}
 use Rattle.trial.specs.Answers.{trial_text_of}
@@ -62,17 +61,10 @@ module _ (N m n top : ℕ) where
         | no h ↦ rw (refused_lines h) (omega (arith, line-length (f.number ∷ 0 ∷ [])))
       ]
 
-  -- a text in 559 bytes
-  abbrev text_in : List ℕ → ℕ → SheetText
-  text_in bytes long = record { bytes = bytes; length = long }
-
   abbrev zeros : List ℕ
   zeros = replicate 559 0
 
   module _ (o' : List ℕ) (w : Wrote) (says : TrialSays N m n top zeros o' w) where
-    pub refused_long : w.number ≢ 0 → length o' ≡ 559
-    refused_long h = ap length ((trial_told says).refused h).1 ∙ length-replicate {A = ℕ} 559 0
-
     pub place_none : w.place ≡ 0
     place_none = (trial_told says).place
 
@@ -81,19 +73,21 @@ module _ (N m n top : ℕ) where
         (trial_told says).number
         ∙ ap (λ k. (trial_fault m n top k).number) (length-replicate {A = ℕ} 559 0)
 
-    pub lines_written : w.number ≡ 0 → text_in o' w.length ≡ as_text (trial_lines N m n top)
+    lines_written : w.number ≡ 0 → text_in o' w.length ≡ as_text (trial_lines N m n top)
     lines_written z =
         let (long, bytes) = (trial_told says).written z in
         ap₂ text_in bytes long ∙ sym (ap as_text (accepted_lines (sym number_is ∙ z)))
 
-    pub lines_refused : w.number ≢ 0 → (o'' : List ℕ) → o'' ≡ over (line w.number w.place) o' →
-        text_in o'' 13 ≡ as_text (trial_lines N m n top)
-    lines_refused h o'' e =
+    lines_refused : w.number ≢ 0 → text_in (over (line w.number w.place) o') 13 ≡ as_text (trial_lines N m n top)
+    lines_refused h =
         let kept = ((trial_told says).refused h).1 in
         ap₂ text_in
-        (e ∙ ap (over (line w.number w.place)) kept ∙ ap₂ (λ i j. over (line i j) zeros) number_is place_none)
+        (ap (over (line w.number w.place)) kept ∙ ap₂ (λ i j. over (line i j) zeros) number_is place_none)
         (sym (line-length (f.number ∷ 0 ∷ [])))
         ∙ sym (ap as_text (refused_lines (λ z. h (number_is ∙ z))))
+
+    pub lines_told : wrote_text w o' ≡ as_text (trial_lines N m n top)
+    lines_told = text_is w o' (as_text (trial_lines N m n top)) lines_written lines_refused
 
 -- by whether the bytes are four numbers
 module _ (b : List ℕ) where
@@ -146,8 +140,3 @@ text_says b N m n top typed o o' r long says =
           text ∙ refused_lines N m n top (λ z. h (same ∙ z))
           ∙ ap₂ (line N m n top) (sym same) (sym (trial_told says).place),
     )
-
--- what is answered lies within its bytes
-pub text_within : (b : List ℕ) (r : SheetText) → r ≡ trial_text_of b → r.length ≤ length r.bytes
-text_within b r e =
-    subst (λ (x : SheetText). x.length ≤ length x.bytes) (sym e) (front_within (trial_text b) 559 (text_longest b))

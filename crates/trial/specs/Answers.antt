@@ -5,12 +5,13 @@ use Rattle.theory.specs.Sums.{pick, when}
 use Rattle.theory.specs.Lists.{over}
 use Rattle.theory.specs.Tests.{every}
 use Rattle.fields.specs.Fields.{field_at, good, number_at, line_of}
+use Rattle.printing.specs.declared.Text.{Text}
 use Rattle.sheet.specs.declared.Fault.{Fault}
 use Rattle.sheet.specs.Sheets.{line_length}
 use Rattle.sheet.specs.Questions.{fault, accepts, ask, between}
 use Rattle.writing.specs.declared.Wrote.{Wrote}
-use Rattle.writing.specs.declared.SheetText.{SheetText}
 use Rattle.writing.specs.Lists.{sheet_bytes}
+use Rattle.writing.specs.Answers.{text_in}
 use Rattle.trial.specs.Worths.{trial_list}
 
 -- rule 12.5: in order, up to the first "no"; the place is 0
@@ -55,8 +56,8 @@ unfoldable pub trial_text : List ℕ → List ℕ
 trial_text b = pick (trial_asked b) (trial_lines (number_at 0 b) (number_at 6 b) (number_at 12 b) (number_at 18 b)) []
 
 -- at the front of 559 bytes, of which the others are 0
-abbrev pub as_text : List ℕ → SheetText
-as_text t = record { bytes = over t (replicate 559 0); length = length t }
+abbrev pub as_text : List ℕ → Text 559
+as_text t = text_in (over t (replicate 559 0)) (length t)
 
-abbrev pub trial_text_of : List ℕ → SheetText
+abbrev pub trial_text_of : List ℕ → Text 559
 trial_text_of b = as_text (trial_text b)

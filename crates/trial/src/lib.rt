@@ -1,19 +1,23 @@
 // Makes a trial sheet from a generator: whoever has its four numbers makes the same sheet.
 #![tactic(auto)]
 
-ghost use Rattle.std.specs.Prelude.{◌≡◌, ℕ, ◌+◌, ◌≤◌, ◌<◌, length, get_or};
+ghost use Rattle.std.specs.Prelude.{◌≡◌, ℕ, ◌+◌, ◌≤◌, ◌<◌, length, get_or, IfOk};
 ghost use Rattle.numbers.specs.Numbers.{Is};
 ghost use Rattle.trial.specs.Worths.{row_worth, worth_without, most_fewer, drawn_worth, most_worths};
+ghost use Rattle.sheet.specs.Refusals.{refused_as};
+ghost use Rattle.writing.specs.Answers.{IsSize};
+ghost use Rattle.trial.specs.Asked.{numbers_fault};
 ghost use Rattle.trial.specs.Answers.{TrialSays, trial_asked, trial_lines, as_text, trial_text_of};
 ghost use Rattle.trial.specs.Claims.{Trials};
 
 use lines::bundles;
 use numbers::has;
-use printing::put_line;
-use reading::is_between;
-use writing::{SheetText, Wrote};
+use printing::Text;
+use sheet::{Refusal, Size};
+use writing::{Wrote, ask_size, write_sheet};
 
-// What bundle s is worth without lot j + 1, by the worths of the bundles from 1 on; 0 if it has not that lot.
+// What bundle s is worth without lot j + 1, by the worths of the bundles from 1 on; 0, the least worth, if it has not
+// that lot.
 fn worth_without(row: &[u32], s: usize, j: usize) -> u32
     requires { (j < 4) × (s ≤ length row.now + 1) × ((k : ℕ) → get_or row.now k 0 ≤ 9999) }
     ensures { Is (worth_without (row_worth row.now) s j) result 9999 }
@@ -34,13 +38,9 @@ fn most_fewer(row: &[u32], n: usize, s: usize) -> u32
     ensures { Is (most_fewer n (row_worth row.now) s) result 9999 }
 {
     let mut most: u32 = 0;
-    let mut j: usize = 0;
-    while j < n {
+    for j in 0..n {
         let fewer = worth_without(row, s, j);
-        if most < fewer {
-            most = fewer;
-        }
-        j += 1;
+        most = most.max(fewer);
     }
     most
 }
@@ -50,11 +50,7 @@ fn raised_by(top: u32, fewer: u32, value: u32) -> u32
     requires { (top ≤ 9999) × (fewer ≤ 9999) }
     ensures { result ≡ drawn_worth top fewer value }
 {
-    let sum = fewer + value % (top + 1);
-    if 9999 < sum {
-        return 9999;
-    }
-    sum
+    (fewer + value % (top + 1)).min(9999)
 }
 
 // The worths of a trial sheet in the sheet's order, as many as the greatest has. A smaller one takes the first of them.
@@ -63,30 +59,29 @@ fn most_worths(number: u16, n: usize, top: u32) -> [u32; 90]
     ensures { result ≡ most_worths number n top }
 {
     let size = bundles(n) - 1;
-    let mut g = generator::after_draws(100 * (number as u32));
-    let mut t = [0u32; 90];
-    let mut k: usize = 0;
-    while k < 90 {
+    let mut g = generator::after_draws(100 * u32::from(number));
+    let mut t = [0; 90];
+    for k in 0..90 {
         let one = generator::draw(g);
         let c = k % size;
         let from = k - c;
         let fewer = most_fewer(&t[from..k], n, c + 1);
         t[k] = raised_by(top, fewer, one.value);
         g = one.next;
-        k += 1;
     }
     t
 }
 
-// A refusal.
-fn refused(number: u8) -> Wrote
-    ensures { result ≡ record { number = number; place = 0; length = 0 } }
+// Questions 3, 4 and 7.
+fn ask_trial(buyers: u32, lots: u32, top: u32) -> Result<Size, Refusal>
+    ensures fault { refused_as result ≡ numbers_fault buyers lots top }
+    ensures size { IfOk result (λ size. IsSize buyers lots size) }
 {
-    Wrote {
-        number,
-        place: 0,
-        length: 0,
+    let size = ask_size(buyers, lots)?;
+    if 9999 < top {
+        return Err(Refusal::TooLarge(0));
     }
+    Ok(size)
 }
 
 // Writes a trial sheet at the front of a buffer, unless a question gets a no: the number of the first that does, and
@@ -94,20 +89,14 @@ fn refused(number: u8) -> Wrote
 pub fn trial_sheet(number: u16, buyers: u32, lots: u32, top: u32, out: &mut [u8]) -> Wrote
     ensures { TrialSays number buyers lots top out.old out.new result }
 {
-    let m = buyers as usize;
-    let n = lots as usize;
-    if !is_between(6, m) {
-        return refused(3);
+    match ask_trial(buyers, lots, top) {
+        Err(refusal) => refusal.into(),
+        Ok(size) => {
+            let worths = most_worths(number, size.lots, top);
+            let count = size.buyers * (bundles(size.lots) - 1);
+            write_sheet(buyers, lots, &worths[..count], out)
+        }
     }
-    if !is_between(4, n) {
-        return refused(4);
-    }
-    if 9999 < top {
-        return refused(7);
-    }
-    let worths = most_worths(number, n, top);
-    let count = m * (bundles(n) - 1);
-    writing::write_sheet(buyers, lots, &worths[..count], out)
 }
 
 // Whether some bytes are four numbers in six columns each, the first of them at most 65,535.
@@ -117,38 +106,30 @@ fn is_asked(numbers: &[u8]) -> bool
     if numbers.len() != 24 {
         return false;
     }
-    let mut k: usize = 0;
-    while k < 4 {
+    for k in 0..4 {
         if !fields::field_good(numbers, 6 * k) {
             return false;
         }
-        k += 1;
     }
     fields::field_number(numbers, 0) <= 65535
 }
 
 // The trial sheet of four numbers, or the line of its refusal.
-fn text_of(number: u16, buyers: u32, lots: u32, top: u32) -> SheetText
+fn text_of(number: u16, buyers: u32, lots: u32, top: u32) -> Text<559>
     ensures { result ≡ as_text (trial_lines number buyers lots top) }
 {
-    let mut bytes = [0u8; 559];
+    let mut bytes = [0; 559];
     let wrote = trial_sheet(number, buyers, lots, top, &mut bytes);
-    if wrote.number == 0 {
-        let length = wrote.length as usize;
-        return SheetText { bytes, length };
-    }
-    let line = [wrote.number as u32, wrote.place];
-    put_line(&mut bytes, &line);
-    SheetText { bytes, length: 13 }
+    wrote.text(bytes)
 }
 
 // The trial sheet of four numbers in fields of six columns, or the line of its refusal; nothing of other bytes.
-pub fn trial_text(numbers: &[u8]) -> SheetText
+pub fn trial_text(numbers: &[u8]) -> Text<559>
     ensures { result ≡ trial_text_of numbers.now }
 {
     if !is_asked(numbers) {
-        return SheetText {
-            bytes: [0u8; 559],
+        return Text {
+            bytes: [0; 559],
             length: 0,
         };
     }

@@ -6,7 +6,5 @@ fn main() {
     let mut numbers = [0u8; 558];
     let n = io::read_full(0, &mut numbers);
     let text = writing::sheet_text(&numbers[..n]);
-    let bytes = text.bytes;
-    let k = text.length;
-    io::write_all(1, &bytes[..k]);
+    io::write_all(1, text.as_bytes());
 }

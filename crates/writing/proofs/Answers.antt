@@ -1,7 +1,7 @@
 -- What `write_sheet` answers and leaves in the buffer: a refusal (`says_refused`), or a sheet that is written
--- (`says_written`), in two parts (`parts_written`); and what an answer of either kind tells (`Told`, `told`,
+-- (`says_written`; `fills_sized` and `says_sized`, by its size), in two parts (`parts_written`); and what an answer of either kind tells (`Told`, `told`,
 -- `write_told`).
-use mathlib.Core.Path.{◌≡◌, sym, ap, ◌∙◌}
+use mathlib.Core.Path.{◌≡◌, sym, ap, ap₂, subst₂, ◌∙◌}
 use mathlib.Core.Logic.{◌≢◌}
 use mathlib.Core.Bool.{Bool, true, false}
 use mathlib.Core.List.{List, [], ◌∷◌}
@@ -13,17 +13,21 @@ use borrow.Author.Tests.{eq-eqb, ne_eqb}
 use borrow.Rule.Slice.PartMut.{put_mid}
 use Rattle.theory.specs.Sums.{pick, when}
 use Rattle.theory.specs.Lists.{over}
-use Rattle.theory.proofs.Over.{over_long, over_then}
+use Rattle.theory.proofs.Over.{over_then}
 use Rattle.fields.specs.Fields.{line_of}
 use Rattle.fields.proofs.Lines.{line-length, lines-length}
 use Rattle.sheet.specs.declared.Fault.{Fault}
+use Rattle.sheet.specs.declared.Refusal.{Refusal}
+use Rattle.sheet.specs.declared.Size.{Size}
 use Rattle.sheet.specs.Sheets.{line_length, line_worths}
-use Rattle.sheet.specs.Questions.{accepts}
+use Rattle.sheet.specs.Questions.{fault, accepts}
+use Rattle.sheet.specs.Refusals.{fault_of}
 use Rattle.sheet.proofs.Writing.{bytes_written, row_long}
 use Rattle.writing.specs.declared.Wrote.{Wrote}
-use Rattle.writing.specs.Lists.{list_sheet, row_bytes, sheet_bytes}
-use Rattle.writing.specs.Answers.{write_fault, WriteSays}
-use Rattle.writing.proofs.Questions.{write_place}
+use Rattle.writing.specs.Lists.{list_sheet, Fills, row_bytes, sheet_bytes}
+use Rattle.writing.specs.Answers.{IsSize, write_fault, WriteSays, refused_wrote}
+use Rattle.writing.proofs.Asking.{refused_some}
+use Rattle.writing.proofs.Questions.{write_all_yes, write_place}
 
 pub sheet_length : (m n : ℕ) (vs : List ℕ) → length (sheet_bytes m n vs) ≡ 13 + m * line_length n
 unfolding sheet_bytes
@@ -32,9 +36,6 @@ sheet_length m n vs = (bytes_written (list_sheet m n vs)).long
 -- the first line, then the lines of worths
 module _ (m n : ℕ) (vs o l last : List ℕ) (room : 13 + m * line_length n ≤ length o)
     (e : l ≡ over (line_of (m ∷ n ∷ [])) o) where
-  pub first_long : length l ≡ length o
-  first_long = ap length e ∙ over_long (line_of (m ∷ n ∷ [])) o (omega (arith, line-length (m ∷ n ∷ [])))
-
   pub parts_written :
       last ≡ over (row_bytes m n vs) (take (length l - 13) (drop 13 l)) →
       put_mid 13 (length l - 13) l last ≡ over (sheet_bytes m n vs) o
@@ -85,12 +86,12 @@ module _ (m n : ℕ) (vs o : List ℕ) where
   abbrev b : List ℕ
   b = sheet_bytes m n vs
 
-  pub says_refused : (k : ℕ) → k ≡ f.number → k ≢ 0 → WriteSays m n vs o o (wrote k 0 0)
-  says_refused k e h =
-      let t = ne_eqb f.number 0 (λ z. h (e ∙ z)) in
+  pub says_refused : (r : Refusal) → fault_of r ≡ f → WriteSays m n vs o o (refused_wrote r)
+  says_refused r e =
+      let t = ne_eqb f.number 0 (λ z. refused_some r (ap (λ (g : Fault). g.number) e ∙ z)) in
       record {
         answer =
-            ap (λ x. wrote x 0 0) e ∙ ap (λ x. wrote f.number x 0) (sym (write_place m n vs (length o)))
+            ap (λ (g : Fault). wrote g.number g.place 0) e
             ∙ ap (λ x. wrote f.number f.place (when x (length b))) (sym t);
         bytes = ap (λ x. pick x (over b o) o) (sym t);
       }
@@ -106,6 +107,28 @@ module _ (m n : ℕ) (vs o : List ℕ) where
             ∙ ap (λ x. wrote f.number f.place (when x (length b))) (sym t);
         bytes = eo ∙ ap (λ x. pick x (over b o) o) (sym t);
       }
+
+  -- by the size that the questions leave
+  module _ (size : Size) (is : IsSize m n size) (none : fault 0 0 ≡ f) where
+    pub fills_sized : Fills size.buyers size.lots vs × (13 + size.buyers * line_length size.lots ≤ length o)
+    fills_sized =
+        let yes_to = (write_all_yes m n vs (length o)).0 (sym (ap (λ (g : Fault). g.number) none)) in
+        subst₂ (λ x y. Fills x y vs × (13 + x * line_length y ≤ length o)) (sym is.0) (sym is.1) (
+          record {
+            few_buyers = (yes_to 0).1;
+            few_lots = (yes_to 1).1;
+            right = yes_to 2;
+            small = λ k. omega (arith, yes_to 3 k);
+          },
+          yes_to 5,
+        )
+
+    pub says_sized : (k : ℕ) (o' : List ℕ) → k ≡ 13 + size.buyers * line_length size.lots →
+        o' ≡ over (sheet_bytes size.buyers size.lots vs) o → WriteSays m n vs o o' (wrote 0 0 k)
+    says_sized k o' ek eo =
+        says_written k o' (ap (λ (g : Fault). g.number) none)
+        (ek ∙ ap₂ (λ x y. 13 + x * line_length y) is.0 is.1)
+        (eo ∙ ap₂ (λ x y. over (sheet_bytes x y vs) o) is.0 is.1)
 
 -- the other way round
 pub write_told : {m n : ℕ} {vs o o' : List ℕ} {r : Wrote} → WriteSays m n vs o o' r →

@@ -1,9 +1,11 @@
--- What `sheet_text` answers, of a sheet that is written (`text_written`) or refused (`text_refused`); what is printed
--- of numbers is what is written of them (`text_says`, `typed_fields`), and no other bytes are written (`text_fields`);
--- it is never long (`text_longest`, `text_within`).
-use mathlib.Core.Path.{◌≡◌, refl, sym, ap, ap₂, subst, subst₂, ◌∙◌}
+-- The text of an answer, by its number (`text_is`); what `sheet_text` answers (`text_told`); what is printed of numbers
+-- is what is written of them (`text_says`, `typed_fields`), and no other bytes are written (`text_fields`); it is never
+-- long (`text_longest`).
+use mathlib.Core.Path.{◌≡◌, refl, sym, ap, ap₂, subst₂, ◌∙◌}
 use mathlib.Core.Logic.{◌≢◌}
 use mathlib.Core.List.{List, [], ◌∷◌}
+use Rattle.std.specs.Prelude.{Result, Ok, Err}
+use Rattle.std.specs.Result.{result_unwrap_or}
 use Prim.Native.Nat.{ℕ, zero, suc, min, ◌+◌, ◌-◌, ◌*◌, ◌/◌, ◌^◌, ◌≤◌, ◌<◌}
 use native.Mathlib.Nat.{pow-le-pow_right}
 use native.Mathlib.Omega.{arith}
@@ -16,20 +18,17 @@ use Rattle.theory.specs.Sums.{pick}
 use Rattle.theory.specs.Lists.{tabulate, over}
 use Rattle.theory.proofs.Lists.{tabulate-at, tabulate-length, tabulate-take}
 use Rattle.numbers.proofs.Numbers.{product_small}
-use Rattle.fields.specs.declared.Field.{Field}
-use Rattle.fields.specs.declared.Field.TheVariants.{Number, Faulty}
 use Rattle.fields.specs.Fields.{columns, fields_of, line_of, field_at}
 use Rattle.fields.proofs.Canonical.{field_canonical}
-use Rattle.theory.proofs.Over.{front_within}
 use Rattle.fields.proofs.Lines.{fields_length, line-length}
 use Rattle.fields.proofs.Listed.{listed-read, fields_listed}
+use Rattle.printing.specs.declared.Text.{Text}
 use Rattle.sheet.specs.declared.Fault.{Fault}
 use Rattle.sheet.specs.Sheets.{line_length}
 use Rattle.writing.specs.declared.Wrote.{Wrote}
-use Rattle.writing.specs.declared.SheetText.{SheetText}
 use Rattle.writing.specs.Lists.{sheet_bytes}
 use Rattle.writing.specs.Answers.{write_fault, WriteSays, or_too_large, typed, typed_list, first_typed}
-use Rattle.writing.specs.Answers.{sheet_text, sheet_text_of}
+use Rattle.writing.specs.Answers.{sheet_text, text_in, wrote_text, sheet_text_of}
 use Rattle.writing.specs.Claims.{ListQuestion}
 use Rattle.writing.proofs.Questions.{write_place, write_all_yes}
 use Rattle.writing.proofs.Answers.{sheet_length, write_told}
@@ -55,6 +54,25 @@ first-list b k e =
           let same : k ≡ 91 = omega arith in
           ap (λ j. tabulate j 2 (typed b)) same ∙ sym (tabulate-take 91 many 2 (typed b) (omega arith))
     ]
+
+-- the text of an answer, by its number
+module _ (w : Wrote) (bytes : List ℕ) where
+  abbrev refusal_text : Text 559
+  refusal_text = text_in (over (line_of (w.number ∷ w.place ∷ [])) bytes) 13
+
+  pub sheet_shown : w.number ≡ 0 → text_in bytes w.length ≡ wrote_text w bytes
+  sheet_shown z = ap (λ t. pick t (text_in bytes w.length) refusal_text) (sym (eq-eqb w.number 0 z))
+
+  pub refusal_shown : w.number ≢ 0 → refusal_text ≡ wrote_text w bytes
+  refusal_shown h = ap (λ t. pick t (text_in bytes w.length) refusal_text) (sym (ne_eqb w.number 0 h))
+
+  pub text_is : (t : Text 559) → (w.number ≡ 0 → text_in bytes w.length ≡ t) → (w.number ≢ 0 → refusal_text ≡ t) →
+      wrote_text w bytes ≡ t
+  text_is t written refused =
+      elim (ℕ_discrete w.number 0) [
+        | yes z ↦ sym (sheet_shown z) ∙ written z
+        | no h ↦ sym (refusal_shown h) ∙ refused h
+      ]
 
 module _ (b : List ℕ) where
   abbrev m : ℕ
@@ -82,10 +100,6 @@ module _ (b : List ℕ) where
       ap (λ t. pick t (sheet_bytes m n vs) (line f.number f.place)) (ne_eqb f.number 0 h)
       ∙ ap (line f.number) (write_place m n vs 559)
 
-  -- a text in 559 bytes
-  abbrev text_in : List ℕ → ℕ → SheetText
-  text_in bytes long = record { bytes = bytes; length = long }
-
   text_of : (t : List ℕ) → sheet_text b ≡ t → text_in (over t (replicate 559 0)) (length t) ≡ sheet_text_of b
   text_of t e = ap (λ x. text_in (over x (replicate 559 0)) (length x)) (sym e)
 
@@ -98,9 +112,6 @@ module _ (b : List ℕ) where
     says : WriteSays m n l zeros o' w
     says = subst₂ (λ i j. WriteSays i j l zeros o' w) ex ey told
 
-    pub refused_long : w.number ≢ 0 → length o' ≡ 559
-    refused_long h = ap length ((write_told says).refused h).1 ∙ length-replicate {A = ℕ} 559 0
-
     pub place_none : w.place ≡ 0
     place_none = (write_told says).place
 
@@ -110,7 +121,7 @@ module _ (b : List ℕ) where
         ∙ ap (λ k. (write_fault m n l k).number) (length-replicate {A = ℕ} 559 0)
         ∙ ap (λ us. (write_fault m n us 559).number) el ∙ ap (λ (g : Fault). g.number) (write_cut m n vs 559)
 
-    pub text_written : w.number ≡ 0 → text_in o' w.length ≡ sheet_text_of b
+    text_written : w.number ≡ 0 → text_in o' w.length ≡ sheet_text_of b
     text_written z =
         let yes_to = (write_all_yes m n vs 559).0 (sym number_is ∙ z) in
         let few = count_small m n (yes_to 0).1 (yes_to 1).1 in
@@ -120,14 +131,16 @@ module _ (b : List ℕ) where
         ∙ ap (λ us. text_in (over (sheet_bytes m n us) zeros) (length (sheet_bytes m n us))) whole
         ∙ text_of (sheet_bytes m n vs) (accepted_text (sym number_is ∙ z))
 
-    pub text_refused : w.number ≢ 0 → (o'' : List ℕ) → o'' ≡ over (line w.number w.place) o' →
-        text_in o'' 13 ≡ sheet_text_of b
-    text_refused h o'' e =
+    text_refused : w.number ≢ 0 → text_in (over (line w.number w.place) o') 13 ≡ sheet_text_of b
+    text_refused h =
         let kept = ((write_told says).refused h).1 in
         ap₂ text_in
-        (e ∙ ap (over (line w.number w.place)) kept ∙ ap₂ (λ i j. over (line i j) zeros) number_is place_none)
+        (ap (over (line w.number w.place)) kept ∙ ap₂ (λ i j. over (line i j) zeros) number_is place_none)
         (sym (line-length (f.number ∷ 0 ∷ [])))
         ∙ text_of (line f.number 0) (refused_text_lem (λ z. h (number_is ∙ z)))
+
+    pub text_told : wrote_text w o' ≡ sheet_text_of b
+    text_told = text_is w o' (sheet_text_of b) text_written text_refused
 
   pub text_says : (o o' : List ℕ) (r : Wrote) → 559 ≤ length o → WriteSays m n vs o o' r →
       (r.number ≡ 0 → (sheet_text b ≡ take r.length o') × (20 ≤ length (sheet_text b)))
@@ -158,10 +171,10 @@ module _ (b : List ℕ) where
         | no h ↦ rw (refused_text_lem h) (omega (arith, line-length (f.number ∷ 0 ∷ [])))
       ]
 
--- what is answered lies within its bytes
-pub text_within : (b : List ℕ) (r : SheetText) → r ≡ sheet_text_of b → r.length ≤ length r.bytes
-text_within b r e =
-    subst (λ (x : SheetText). x.length ≤ length x.bytes) (sym e) (front_within (sheet_text b) 559 (text_longest b))
+-- a field or too large a number, as std says it
+pub typed_or : (f : Result ℕ ℕ) → result_unwrap_or f 1000000 ≡ or_too_large f
+typed_or (Ok v) = refl
+typed_or (Err at) = refl
 
 -- numbers in fields are read as they are
 typed_in : (l : List ℕ) (k : ℕ) → k < length l → get_or l k 0 ≤ 999999 → typed (fields_of l) k ≡ get_or l k 0
@@ -184,9 +197,9 @@ typed_fields m n vs small =
     )
 
 -- and bytes that are written are numbers in fields
-good_field : (f : Field) → or_too_large f ≤ 9999 → f ≡ Number (or_too_large f)
-good_field (Number v) h = refl
-good_field (Faulty at) h = absurd (omega arith)
+good_field : (f : Result ℕ ℕ) → or_too_large f ≤ 9999 → f ≡ Ok (or_too_large f)
+good_field (Ok v) h = refl
+good_field (Err at) h = absurd (omega arith)
 
 module _ (b : List ℕ) (long : 13 < length (sheet_text b)) where
   abbrev l : List ℕ

@@ -7,6 +7,3 @@ use Rattle.trial.proofs.is_asked.Given as goal
 
 abbrev pub invariant-loop-k : goal.invariant-loop-k
 invariant-loop-k l = every (4 - l.k) l.k (λ j. good (field_at (6 * j) l.numbers)) ≡ good_fields l.numbers
-
-abbrev pub decreases-loop-k : goal.decreases-loop-k
-decreases-loop-k l = 4 - l.k

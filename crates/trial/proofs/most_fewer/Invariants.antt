@@ -10,6 +10,3 @@ invariant-loop-j l =
     let v = row_worth l.row in
     (l.most ≤ 9999)
     × (max l.most (most (worth_without v l.s) (up_to (l.n - l.j) l.j)) ≡ most_fewer l.n v l.s)
-
-abbrev pub decreases-loop-j : goal.decreases-loop-j
-decreases-loop-j l = l.n - l.j

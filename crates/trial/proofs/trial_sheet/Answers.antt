@@ -1,49 +1,22 @@
 -- `trial::trial_sheet` meets its contract.
-use Rattle.std.proofs.Common.{◌≡◌, ℕ, ◌-◌, ◌*◌, ◌^◌, ◌≤◌, true, length, sym, ap, ◌∙◌, arith}
+use Rattle.std.proofs.Common.{◌≡◌, true, ℕ, ◌-◌, ◌*◌, ◌^◌, ◌≤◌, length, sym, ap, ap₂, subst, ◌∙◌, arith}
 use lib.ListN.{take}
-use lib.Seq.{length-take-le}
 use Rattle.sheet.specs.Questions.{between}
 use Rattle.sheet.proofs.Faults.{between_means}
 use Rattle.writing.proofs.Limits.{count_small}
-use Rattle.trial.specs.Worths.{trial_list}
+use Rattle.trial.specs.Worths.{most_worths, trial_list}
+use Rattle.trial.specs.Answers.{TrialSays}
 use Rattle.trial.proofs.Tables.{most-length, list_front}
-use Rattle.trial.proofs.Asking.{bad_buyers, bad_lots, high_top}
+use Rattle.trial.proofs.Asking.{numbers_good}
 use Rattle.trial.proofs.Answers.{says_refused, says_written}
 use Rattle.trial.proofs.trial_sheet.Goals as goal
-use Rattle.trial.proofs.trial_sheet.Goals.{Else-not-is_between, Else-not-is_between-2, After-bundles}
+use Rattle.trial.proofs.trial_sheet.Goals.{After-bundles}
 
-pub returns-then-not-is_between : goal.returns-then-not-is_between
-returns-then-not-is_between c =
+pub returns-in-Err : goal.returns-in-Err
+returns-in-Err c =
     let z = c.args in
-    says_refused z.number z.buyers z.lots z.top z.out.now 3
-    (bad_buyers z.buyers z.lots z.top _ (sym c.is_between.ensures ∙ c.if-not-is_between.true))
-    (λ e. omega arith) _ c.refused.ensures
-
--- buyers are good
-good_buyers : (c : Else-not-is_between) → between 6 c.args.buyers ≡ true
-good_buyers c = sym c.is_between.ensures ∙ c.if-not-is_between.false
-
-pub returns-then-not-is_between-2 : goal.returns-then-not-is_between-2
-returns-then-not-is_between-2 c =
-    let z = c.args in
-    says_refused z.number z.buyers z.lots z.top z.out.now 4
-    (bad_lots z.buyers z.lots z.top _
-    (good_buyers (goal.at.returns-then-not-is_between-2 c).Else-not-is_between)
-    (sym c.is_between-2.ensures ∙ c.if-not-is_between-2.true))
-    (λ e. omega arith) _ c.refused-then-not-is_between-2.ensures
-
--- and lots
-good_lots : (c : Else-not-is_between-2) → between 4 c.args.lots ≡ true
-good_lots c = sym c.is_between-2.ensures ∙ c.if-not-is_between-2.false
-
-pub returns-then-top-gt9999 : goal.returns-then-top-gt9999
-returns-then-top-gt9999 c =
-    let z = c.args in
-    let at = goal.at.returns-then-top-gt9999 c in
-    says_refused z.number z.buyers z.lots z.top z.out.now 7
-    (high_top z.buyers z.lots z.top _ (good_buyers at.Else-not-is_between) (good_lots at.Else-not-is_between-2)
-    c.if-top-gt9999.true)
-    (λ e. omega arith) _ c.refused-then-top-gt9999.ensures
+    subst (TrialSays z.number z.buyers z.lots z.top z.out.now z.out.now) (sym c.into.ensures)
+    (says_refused z.number z.buyers z.lots z.top z.out.now c.in-Err.refusal c.in-Err.ensures.fault)
 
 -- all is good but the buffer, of which nothing is known
 module _ (c : After-bundles) where
@@ -54,33 +27,33 @@ module _ (c : After-bundles) where
   n = c.args.lots
 
   abbrev count : ℕ
-  count = m * (c.bundles.result - 1)
+  count = c.in-Ok.size.buyers * (c.bundles.result - 1)
 
-  six : between 6 m ≡ true
-  six = sym c.is_between.ensures ∙ c.if-not-is_between.false
-
-  four : between 4 n ≡ true
-  four = sym c.is_between-2.ensures ∙ c.if-not-is_between-2.false
+  asked : (between 6 m ≡ true) × (between 4 n ≡ true) × (c.args.top ≤ 9999)
+  asked = numbers_good m n c.args.top c.in-Ok.ensures.fault
 
   count_is : count ≡ m * (2 ^ n - 1)
-  count_is = ap (λ x. m * (x - 1)) c.bundles.ensures.is
+  count_is =
+      ap (λ x. c.in-Ok.size.buyers * (x - 1)) c.bundles.ensures.is
+      ∙ ap₂ (λ x y. x * (2 ^ y - 1)) c.in-Ok.ensures.size.0 c.in-Ok.ensures.size.1
 
   few : count ≤ 90
-  few = omega (arith, count_is, count_small m n ((between_means 6 m).0 six).1 ((between_means 4 n).0 four).1)
+  few = omega (arith, count_is, count_small m n ((between_means 6 m).0 asked.0).1 ((between_means 4 n).0 asked.1).1)
+
+  drawn_are : c.most_worths-worths.result ≡ most_worths c.args.number n c.args.top
+  drawn_are =
+      c.most_worths-worths.ensures ∙ ap (λ x. most_worths c.args.number x c.args.top) c.in-Ok.ensures.size.1
 
   worths_are : take count c.most_worths-worths.result ≡ trial_list c.args.number m n c.args.top
-  worths_are = list_front c.args.number m n c.args.top _ count c.most_worths-worths.ensures count_is few
+  worths_are = list_front c.args.number m n c.args.top _ count drawn_are count_is few
 
   inside : count ≤ length c.most_worths-worths.result
-  inside = omega (arith, few, ap length c.most_worths-worths.ensures, most-length c.args.number n c.args.top)
+  inside = omega (arith, few, ap length drawn_are, most-length c.args.number n c.args.top)
 
-pub slice_bounds-write_sheet-end : goal.slice_bounds-write_sheet-end
-slice_bounds-write_sheet-end c =
-    let p = (goal.at.slice_bounds-write_sheet-end c).After-bundles in sym (length-take-le (count p) _ (inside p))
-
-pub returns : goal.returns
-returns c =
-    let p = (goal.at.returns c).After-bundles in
+pub returns-in-Ok : goal.returns-in-Ok
+returns-in-Ok c =
     let z = c.args in
-    says_written z.number z.buyers z.lots z.top _ (six p) (four p) (omega arith) _ _ c.write_sheet.result (worths_are p)
+    let p = (goal.at.returns-in-Ok c).After-bundles in
+    let good = asked p in
+    says_written z.number z.buyers z.lots z.top z.out.now good.0 good.1 good.2 _ _ c.write_sheet.result (worths_are p)
     c.write_sheet.ensures

@@ -1,14 +1,6 @@
 -- `trial::worth_without` meets its contract.
-use Rattle.trial.proofs.Rows.{without_lot, lot_below, without_all, without-some}
+use Rattle.trial.proofs.Rows.{without_all, without-some}
 use Rattle.trial.proofs.worth_without.Goals as goal
-
-pub returns-then-not-has : goal.returns-then-not-has
-returns-then-not-has c =
-    let z = c.args in without_lot z.row.now z.s z.j _ c.has.ensures c.if-not-has.true
-
-pub overflow_sub-rest : goal.overflow_sub-rest
-overflow_sub-rest c =
-    let z = c.args in lot_below z.row.now z.s z.j _ c.has.ensures c.if-not-has.false _ c.bundles.ensures.is
 
 pub returns-then-rest-eq0 : goal.returns-then-rest-eq0
 returns-then-rest-eq0 c =

@@ -1,5 +1,5 @@
 -- `writing::put_rows` meets its contract. The invariant: the first i lines are written.
-use Rattle.std.proofs.Common.{◌≡◌, ◌-◌, ◌≤◌}
+use Rattle.std.proofs.Common.{◌≡◌}
 use Rattle.theory.specs.Lists.{tabulate, over}
 use Rattle.fields.specs.Fields.{lines_of}
 use Rattle.sheet.specs.Sheets.{line_worths}
@@ -8,8 +8,5 @@ use Rattle.writing.proofs.put_rows.Given as goal
 
 abbrev pub invariant-loop-i : goal.invariant-loop-i
 invariant-loop-i l =
-    (l.i ≤ l.m)
-    × (l.out ≡ over (lines_of (tabulate l.i 0 (line_worths (list_sheet l.m l.n l.worths)))) l.initial.out)
-
-abbrev pub decreases-loop-i : goal.decreases-loop-i
-decreases-loop-i l = l.m - l.i
+    let z = l.fn.size in
+    l.out ≡ over (lines_of (tabulate l.i 0 (line_worths (list_sheet z.buyers z.lots l.worths)))) l.initial.out

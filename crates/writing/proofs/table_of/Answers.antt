@@ -1,11 +1,13 @@
-use Rattle.std.proofs.Common.{arith, refl}
-use Rattle.theory.proofs.Loops.{filled_none, filled_all}
-use Rattle.sheet.specs.Tables.{cells}
+-- `writing::table_of` meets its contract.
+use Rattle.std.proofs.Common.{rules}
+use Rattle.theory.proofs.Arrays.{made_by}
+use Rattle.sheet.specs.Tables.{cell_at, cells}
+use Rattle.writing.specs.Lists.{listed}
 use Rattle.writing.proofs.table_of.Goals as goal
-
-pub loop-k-init : goal.loop-k-init
-loop-k-init c = filled_none _ 96 _ refl
 
 pub returns : goal.returns
 unfolding cells
-returns c = filled_all _ 96 _ _ (omega arith) c.loop-k.invariant
+returns c =
+    let z = c.args in
+    made_by _ (cell_at z.size.buyers z.size.lots (listed z.size.lots z.worths.now)) 96 _
+    (λ i y d h call. search rules) _ c.from_fn.ensures.items
