@@ -1,5 +1,5 @@
--- What writing a sheet answers and leaves in the buffer, refused or not (`WriteSays`), and what is printed of numbers
--- in fields (`sheet_text`).
+-- What writing a sheet answers and leaves in the buffer, refused or not (`WriteSays`), the text of such an answer
+-- (`wrote_text`), and what is printed of numbers in fields (`sheet_text`).
 use Rattle.std.specs.Prelude.{◌≡◌, Bool, List, [], ◌∷◌, ℕ, ◌+◌, ◌-◌, ◌*◌, ◌/◌, ◌^◌, eqb, leb, length, replicate}
 use Rattle.std.specs.Prelude.{Result, Ok, Err}
 use Rattle.theory.specs.Sums.{pick, when}
@@ -87,10 +87,11 @@ sheet_text b =
     let f = write_fault m n (typed_list b) 559 in
     pick (accepts f) (sheet_bytes m n (typed_list b)) (line_of (f.number ∷ f.place ∷ []))
 
--- the text of an answer: what was written into some bytes, or the line of a refusal at their front
+-- a text in 559 bytes
 abbrev pub text_in : List ℕ → ℕ → Text 559
 text_in bytes long = record { bytes = bytes; length = long }
 
+-- the text of an answer: what was written into some bytes, or the line of a refusal at their front
 abbrev pub wrote_text : Wrote → List ℕ → Text 559
 wrote_text w bytes =
     pick (eqb w.number 0) (text_in bytes w.length) (text_in (over (line_of (w.number ∷ w.place ∷ [])) bytes) 13)

@@ -1,7 +1,7 @@
 use Rattle.std.proofs.Common.{◌≡◌, List, ℕ, suc, ◌+◌, ◌-◌, ◌*◌, ◌/◌, ◌%◌, ◌^◌, ◌≤◌, ◌<◌, length, get_or, arith}
-use Rattle.std.proofs.Common.{sym, ap, ◌∙◌}
+use Rattle.std.proofs.Common.{refl, sym, ap, ◌∙◌}
 use lib.ListN.{take, drop}
-use Rattle.theory.proofs.Loops.{filled_more, filled_all}
+use Rattle.theory.proofs.Loops.{filled_none, filled_more, filled_all}
 use Rattle.numbers.proofs.Numbers.{size-some}
 use Rattle.generator.specs.Xorwow.{drawn, after}
 use Rattle.trial.specs.Worths.{drawn_worth, row_up_to, draw_for, most_worths}
@@ -41,6 +41,11 @@ module _ (c : After-draw-one) where
 
   row_is : take (k - (k - k % size)) (drop (k - k % size) t) ≡ row_up_to n top (draw_for N n (k / size)) (k % size)
   row_is = filled_row N n top size is some k t low c.loop-k.invariant.1
+
+pub loop-k-init : goal.loop-k-init
+loop-k-init c =
+    let none : 100 * c.from.result ≡ 100 * c.args.number + 0 = omega (arith, c.from.ensures) in
+    (c.after_draws-g.ensures ∙ ap after none, filled_none _ 90 _ refl)
 
 pub nonzero_rem-c : goal.nonzero_rem-c
 nonzero_rem-c c = omega (arith, c.bundles-size.ensures.is, size-some c.args.n (omega arith))
