@@ -47,7 +47,12 @@ returns c =
     let E = a.self.now.economies in
     let V = a.self.now.valuations in
     turn_some E.buyers E.last V.bundles E.few.0 a.self.now.two V.whole.1 V.worths.now a.prices.now a.kept.now
-    c.supplied-words.result c.supplied-words.ensures c.in-Some.set c.in-Some.ensures.is a.rest.now _ _ _
+    c.supplied-words.result c.supplied-words.ensures c.in-Some.set c.in-Some.ensures.is a.rest.now _ _
+    (record {
+      payoffs = c.lower_payoffs.new.payoffs;
+      gains = c.raise_gains.new.gains;
+      revenues = c.raise_revenues.new.revenues;
+    })
     c.note.ensures c.raise.ensures
     c.lower_payoffs.ensures.1 c.lower_payoffs.ensures.2 c.raise_gains.ensures.1
     c.raise_revenues.ensures.1
