@@ -1,6 +1,6 @@
 -- The text of a sheet: it is what is printed of its sale with any record that is long enough (`any_record`), it has 13
 -- to 227 bytes (`shortest`, `longest`), and it depends on the first 560 bytes alone (`cut`). All that is claimed of
--- printing: `prints_all`. `text_told` and `text_within` are for the text as an answer.
+-- printing: `prints_all`. `text_told` is for the text as an answer.
 use mathlib.Core.Path.{◌≡◌, refl, sym, ap, ap₂, subst, ◌∙◌}
 use mathlib.Core.Logic.{◌≢◌, inl, inr}
 use mathlib.Core.List.{List, [], ◌∷◌}
@@ -14,7 +14,6 @@ use borrow.Author.Tests.{eq-eqb, ne_eqb}
 use Rattle.theory.specs.Sums.{pick}
 use Rattle.theory.specs.Lists.{over}
 use Rattle.theory.proofs.Tests.{by_test}
-use Rattle.theory.proofs.Over.{front_within}
 use Rattle.fields.proofs.Lines.{line-length}
 use Rattle.sheet.specs.Questions.{accepts, onward, sheet_fault}
 use Rattle.sheet.specs.declared.Fault.{Fault}
@@ -28,7 +27,6 @@ use Rattle.offers.proofs.Lots.{shape}
 use Rattle.sale.proofs.Opening.{sale_number}
 use Rattle.promises.specs.Claims.{unplaced}
 use Rattle.promises.proofs.First.{refusals_hold}
-use Rattle.printing.specs.declared.Text.{Text}
 use Rattle.printed.specs.Printed.{printed, settled_text, refused_text, printed_sale, Puts, PrintSays, PrintsSale}
 use Rattle.printed.specs.Printed.{text_of, Prints}
 use Rattle.printed.proofs.Fits.{limit_low, sale_asked, sale_first, prints_fit, never_nine}
@@ -103,11 +101,6 @@ text_told b o o' t t' r says long room zeros =
     let whole =
     (subst (λ x. Puts x t t' r) (any_record b (length o) long) says.prints).whole (omega (arith, longest b)) in
     ap₂ (λ x k. record { bytes = x; length = k }) (whole.1 ∙ ap (over (printed_sale b)) zeros) whole.0
-
--- its length lies within its bytes
-pub text_within : (b : List ℕ) (r : Text 227) → r ≡ text_of b → r.length ≤ length r.bytes
-text_within b r e =
-    subst (λ (x : Text 227). x.length ≤ length x.bytes) (sym e) (front_within (printed_sale b) 227 (longest b))
 
 -- demand 1
 refused_print : (b o o' : List ℕ) (r : Sale) → SaleSays b o o' r → r.number ≢ 0 →

@@ -1,8 +1,8 @@
 -- A table's worths as a sheet has them (`cell`): what stands at a place of the empty bundle, an absent buyer, an absent
--- bundle, and one that there is, and a bound; and by the place's number (`place_absent`, `place_there`, `place_worth`).
-use mathlib.Core.Path.{◌≡◌, sym, ap, ◌∙◌}
+-- bundle, and one that there is, and a bound; and by the place's number (`place_absent`, `place_there`).
+use mathlib.Core.Path.{◌≡◌, sym}
 use mathlib.Core.Bool.{true, false, ◌&&◌}
-use Prim.Native.Nat.{ℕ, suc, ◌-◌, ◌/◌, ◌%◌, ◌^◌, ◌<◌, ◌≤◌}
+use Prim.Native.Nat.{ℕ, ◌/◌, ◌%◌, ◌^◌, ◌<◌, ◌≤◌}
 use native.Mathlib.Omega.{arith}
 use lib.Dec.{ltb, leb}
 use borrow.Author.Tests.{lt-ltb, le-ltb, ltb-true, leb-false}
@@ -41,12 +41,6 @@ module _ (m n : ℕ) (v : Table) where
       let (some, (line, bundle)) = (and_means (leb_means 1 (k % 16))
       (and_means (ltb-true (k / 16) m, lt-ltb (k / 16) m) (ltb-true (k % 16) (2 ^ n), lt-ltb (k % 16) (2 ^ n)))).0 e in
       (some, line, bundle)
-
-  pub place_worth : (k : ℕ) → has_worth m n k ≡ true → v (k / 16) (suc (k % 16 - 1)) ≡ cell_at m n v k
-  place_worth k e =
-      let (some, line, bundle) = place_there k e in
-      let whole : suc (k % 16 - 1) ≡ k % 16 = omega arith in
-      ap (v (k / 16)) whole ∙ cell_there (k / 16) (k % 16) line bundle
 
   pub cell_small : (c : ℕ) → ((i s : ℕ) → i < m → s < 2 ^ n → v i s ≤ c) → (i s : ℕ) → cell m n v i s ≤ c
   cell_small c small i s =

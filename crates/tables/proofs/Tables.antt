@@ -1,5 +1,5 @@
 -- What stands in a table: for a buyer it is the price of the buyers' rows (`entry-price`), and a bidder's row is one of
--- the table's (`row_fits`), of which buyers have six (`buyers_fit`).
+-- the table's (`row_fits`).
 use mathlib.Core.Path.{◌≡◌}
 use mathlib.Core.List.{List}
 use Prim.Native.Nat.{ℕ, ◌+◌, ◌*◌, ◌≤◌}
@@ -21,7 +21,3 @@ row_fits low i L lo hi fits =
     (λ e. let f = rw e at fits in
     by_test (eqb i 0) (λ z. absurd (eqb-false low 0 e (omega (arith, eqb-true i 0 z))))
     (λ z. rw z (omega (arith, eqb-false i 0 z))))
-
--- the buyers have six rows
-pub buyers_fit : (low L : ℕ) → 16 * rows low ≤ L → 96 ≤ L
-buyers_fit low L fits = by_test (eqb low 0) (λ e. let f = rw e at fits in omega arith) (λ e. let f = rw e at fits in f)

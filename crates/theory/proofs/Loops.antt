@@ -1,9 +1,7 @@
 -- Loops over a range: what a definition over it still has to do from k on. Offers one law for each way through a loop
 -- that looks for the first that passes (`least`), that tests all (`every`), that takes in one number after another
--- (`most`, `sum`, `some`, `every`, and `sum` counting down), that fills a list place by place (`Filled`, `tabulate`),
--- and that goes over one place by place (`Revised`). Loops over a list: what is still to do from place k on, for the
--- greatest value, the first that passes, and whether some does. A greater value put in its place is the greatest there
--- (`put_rises`).
+-- (`most`, `sum`, `some`, `every`), that fills a list place by place (`Filled`, `tabulate`), and that goes over one
+-- place by place (`Revised`). A loop over a list: what is still to do from place k on, for the greatest value.
 use mathlib.Core.Path.{◌≡◌, refl, sym, ap, subst, ◌∙◌}
 use mathlib.Core.Logic.{⊎_elim}
 use mathlib.Core.Bool.{Bool, true, false, ◌&&◌, ◌||◌, and_assoc, or_assoc}
@@ -12,13 +10,10 @@ use Prim.Native.Nat.{ℕ, suc, max, ◌+◌, ◌-◌, ◌<◌, ◌≤◌}
 use native.Mathlib.Nat.{zero-add, eq-or-lt_of_le}
 use native.Mathlib.Numerals.{add-one}
 use native.Mathlib.Omega.{arith}
-use native.Mathlib.Decide.{ℕ_discrete}
-use lib.Dec.{eqb}
 use lib.ListN.{length, drop, get_or, set, length-set, drop_of_length-le}
 use lib.Seq.{get_or-set_same, get_or-set_other, ext_get_or, drop-cons}
-use borrow.Author.Tests.{eq-eqb, ne_eqb}
-use Rattle.theory.specs.Sums.{pick, when, sum}
-use Rattle.theory.specs.Lists.{most, first, tabulate, up_to}
+use Rattle.theory.specs.Sums.{pick, sum}
+use Rattle.theory.specs.Lists.{most, tabulate, up_to}
 use Rattle.theory.specs.Tests.{every, some, least}
 use Rattle.theory.proofs.Lists.{tabulate-at, tabulate-length}
 
@@ -33,9 +28,6 @@ module _ (t : ℕ → Bool) (n k T : ℕ) where
 
     pub least_here : t k ≡ true → suc k ≡ T
     least_here f = rw f at least_opened
-
-  pub least_done : n ≤ k → least (n - k) k t ≡ T → 0 ≡ T
-  least_done h inv = let e : n - k ≡ 0 = omega arith in rw e at inv
 
 module _ (t : ℕ → Bool) (n k : ℕ) (T : Bool) where
   module _ (h : k < n) (inv : every (n - k) k t ≡ T) where
@@ -76,9 +68,6 @@ module _ (n k : ℕ) where
     none : n - k ≡ 0
     none = omega arith
 
-    pub most_done : (f : ℕ → ℕ) (x T : ℕ) → max x (most f (up_to (n - k) k)) ≡ T → x ≡ T
-    most_done f x T inv = omega (arith, rw none at inv)
-
     pub sum_done : (f : ℕ → ℕ) (x T : ℕ) → x + sum (n - k) k f ≡ T → x ≡ T
     sum_done f x T inv = omega (arith, rw none at inv)
 
@@ -101,46 +90,14 @@ module _ (l : List ℕ) (k : ℕ) where
         max y (most f (drop (k + 1) l)) ≡ T
     most_next f x y T inv e = omega (arith, ap (most f) opened)
 
-    -- r is what the test answers at place k
-    module _ (t : ℕ → Bool) (d T : ℕ) (r : Bool) (e : r ≡ t (get_or l k 0)) (inv : first t d (drop k l) ≡ T) where
-      pub first_next : r ≡ false → first t d (drop (k + 1) l) ≡ T
-      first_next h = rw (opened, sym e ∙ h) at inv
-
-      pub first_here : r ≡ true → get_or l k 0 ≡ T
-      first_here h = rw (opened, sym e ∙ h) at inv
-
-    module _ (t : ℕ → Bool) (T r : Bool) (e : r ≡ t (get_or l k 0)) (inv : some t (drop k l) ≡ T) where
-      pub some_next : r ≡ false → some t (drop (k + 1) l) ≡ T
-      some_next h = rw (opened, sym e ∙ h) at inv
-
-      pub some_here : r ≡ true → true ≡ T
-      some_here h = rw (opened, sym e ∙ h) at inv
-
   module _ (h : length l ≤ k) where
     pub most-over : (f : ℕ → ℕ) (x T : ℕ) → max x (most f (drop k l)) ≡ T → x ≡ T
     most-over f x T inv = omega (arith, ap (most f) (drop_of_length-le l {i = k} h))
-
-    pub first-over : (t : ℕ → Bool) (d T : ℕ) → first t d (drop k l) ≡ T → d ≡ T
-    first-over t d T inv = rw (drop_of_length-le l {i = k} h) at inv
-
-    pub some-over : (t : ℕ → Bool) (T : Bool) → some t (drop k l) ≡ T → false ≡ T
-    some-over t T inv = rw (drop_of_length-le l {i = k} h) at inv
-
--- a sum over 1 to n, of which the numbers above k are taken in
-pub sum_down : (n k x : ℕ) (f : ℕ → ℕ) → 1 ≤ k → k ≤ n → x ≡ sum (n - k) (suc k) f →
-    x + f k ≡ sum (n - (k - 1)) (suc (k - 1)) f
-sum_down n k x f lo hi e =
-    let a : n - (k - 1) ≡ suc (n - k) = omega arith in
-    let b : suc (k - 1) ≡ k = omega arith in
-    rw (a, b, e) (omega arith)
 
 -- a list of n places, the first k of which hold the values of f
 pub record Filled (f : ℕ → ℕ) (n k : ℕ) (l : List ℕ) : Type 0 where
   pub long : length l ≡ n
   pub done : (j : ℕ) → j < k → get_or l j 0 ≡ f j
-
-pub filled_none : (f : ℕ → ℕ) (n : ℕ) (l : List ℕ) → length l ≡ n → Filled f n 0 l
-filled_none f n l e = record { long = e; done = λ j h. absurd (omega arith) }
 
 pub filled_more : (f : ℕ → ℕ) (n k v : ℕ) (l : List ℕ) → k < n → v ≡ f k → Filled f n k l →
     Filled f n (k + 1) (set l k v)
@@ -195,23 +152,3 @@ module _ (P : ℕ → ℕ → Type 0) (n : ℕ) (old : List ℕ) (k : ℕ) (l : 
             (eq-or-lt_of_le {n = j} {m = k} (omega arith));
         rest = λ j q. g.rest j (omega arith);
       }
-
-pub filled_copy : (n k : ℕ) (l t : List ℕ) → n ≤ k → length l ≡ n → Filled (λ j. get_or l j 0) n k t → t ≡ l
-filled_copy n k l t h e g = ext_get_or 0 t l (g.long ∙ sym e) (λ j q. g.done j (omega (arith, g.long)))
-
--- a value is put in its place if it is greater
-module _ (l : List ℕ) (k total n : ℕ) where
-  pub put_rises : k < length l → get_or l k 0 < total →
-      get_or (set l k total) n 0 ≡ max (get_or l n 0) (when (eqb k n) total)
-  put_rises h r =
-      elim (ℕ_discrete k n) [
-        | yes e ↦ rw (← e, eq-eqb k k refl, get_or-set_same l k total 0 h) (omega arith)
-        | no e ↦ rw (ne_eqb k n e, get_or-set_other l k n total 0 (λ q. e (sym q))) (omega arith)
-      ]
-
-  pub put_stays : total ≤ get_or l k 0 → get_or l n 0 ≡ max (get_or l n 0) (when (eqb k n) total)
-  put_stays h =
-      elim (ℕ_discrete k n) [
-        | yes e ↦ rw (← e, eq-eqb k k refl) (omega arith)
-        | no e ↦ rw (ne_eqb k n e) (omega arith)
-      ]

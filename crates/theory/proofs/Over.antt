@@ -1,7 +1,7 @@
 -- Lists written over others: what stands where (`over_early`, `over_late`, `over_long`), one number more (`over_more`),
--- and a part lent from n on that comes back with more written at its front (`over_then`). What was written stands at
--- the front (`Front`, `over_front`), and lies within the list (`front_within`).
-use mathlib.Core.Path.{◌≡◌, refl, sym, ap, ◌∙◌}
+-- and a part lent from n on that comes back with more written at its front (`over_then`). What was written over zeros
+-- lies within the list (`front_within`).
+use mathlib.Core.Path.{◌≡◌, refl, ap, ◌∙◌}
 use mathlib.Core.List.{List, [], ◌∷◌, ◌++◌, append_assoc, append-nil}
 use Prim.Native.Nat.{ℕ, ◌+◌, ◌-◌, ◌≤◌, ◌<◌}
 use native.Mathlib.Numerals.{add-one}
@@ -41,21 +41,6 @@ over_then xs ys o l last n en h e g =
     rw d (drop_of_length-le (drop n o) {i = length l - n} (rw length-drop (omega arith))) in
     let k : take n l ≡ xs = rw e (take_at xs (drop (length xs) o) n en) in
     rw (k, p, append-nil, g, t, append_assoc, length-append, en, drop-drop) refl
-
--- the r numbers at the front of a table are xs
-pub record Front (xs table : List ℕ) (r : ℕ) : Type 0 where
-  pub covers : r ≤ length table
-  pub long : r ≡ length (take r table)
-  pub taken : take r table ≡ xs
-
-pub over_front : (xs old table : List ℕ) (r : ℕ) → (r ≡ length xs) × (table ≡ over xs old) → Front xs table r
-over_front xs old table r (er, et) =
-    let taken : take r table ≡ xs = rw et (take_at xs (drop (length xs) old) r (sym er)) in
-    record {
-      covers = omega (arith, ap length et, length-append xs (drop (length xs) old));
-      long = er ∙ sym (ap length taken);
-      taken = taken;
-    }
 
 -- a text at the front of zeros lies within them
 pub front_within : (text : List ℕ) (k : ℕ) → length text ≤ k → length text ≤ length (over text (replicate k 0))
