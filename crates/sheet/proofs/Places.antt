@@ -1,14 +1,13 @@
 -- A table's worths as a sheet has them (`cell`): what stands at a place of the empty bundle, an absent buyer, an absent
--- bundle, and one that there is, and a bound; and by the place's number (`place_absent`, `place_there`).
+-- bundle, and one that there is, and a bound.
 use mathlib.Core.Path.{◌≡◌, sym}
-use mathlib.Core.Bool.{true, false, ◌&&◌}
-use Prim.Native.Nat.{ℕ, ◌/◌, ◌%◌, ◌^◌, ◌<◌, ◌≤◌}
+use Prim.Native.Nat.{ℕ, ◌^◌, ◌<◌, ◌≤◌}
 use native.Mathlib.Omega.{arith}
-use lib.Dec.{ltb, leb}
-use borrow.Author.Tests.{lt-ltb, le-ltb, ltb-true, leb-false}
+use lib.Dec.{ltb}
+use borrow.Author.Tests.{lt-ltb, le-ltb, ltb-true}
 use Rattle.theory.specs.Markets.{Table}
-use Rattle.theory.proofs.Tests.{by_test, and_means, leb_means}
-use Rattle.sheet.specs.Tables.{cell, cell_at, has_worth}
+use Rattle.theory.proofs.Tests.{by_test}
+use Rattle.sheet.specs.Tables.{cell}
 
 module _ (m n : ℕ) (v : Table) where
   pub cell_nobody : (i s : ℕ) → m ≤ i → 0 ≡ cell m n v i s
@@ -26,21 +25,6 @@ module _ (m n : ℕ) (v : Table) where
       (by_test (ltb i m)
       (λ t. let z = free (ltb-true i m t) in by_test (ltb 0 (2 ^ n)) (λ u. rw (t, u) (sym z)) (λ u. rw (t, u)))
       (λ t. rw t))
-
-  -- the code's ways: a place without a worth has 0, another the table's
-  pub place_absent : (k : ℕ) → ((i : ℕ) → v i 0 ≡ 0) → has_worth m n k ≡ false → 0 ≡ cell_at m n v k
-  place_absent k free e =
-      by_test (leb 1 (k % 16))
-      (λ t. let absent : (ltb (k / 16) m && ltb (k % 16) (2 ^ n)) ≡ false = rw t at e in rw absent)
-      (λ t.
-      let s : k % 16 ≡ 0 = let low = leb-false 1 (k % 16) t in omega arith in
-      cell_empty (k / 16) (k % 16) (λ _. free (k / 16)) s)
-
-  pub place_there : (k : ℕ) → has_worth m n k ≡ true → (1 ≤ k % 16) × (k / 16 < m) × (k % 16 < 2 ^ n)
-  place_there k e =
-      let (some, (line, bundle)) = (and_means (leb_means 1 (k % 16))
-      (and_means (ltb-true (k / 16) m, lt-ltb (k / 16) m) (ltb-true (k % 16) (2 ^ n), lt-ltb (k % 16) (2 ^ n)))).0 e in
-      (some, line, bundle)
 
   pub cell_small : (c : ℕ) → ((i s : ℕ) → i < m → s < 2 ^ n → v i s ≤ c) → (i s : ℕ) → cell m n v i s ≤ c
   cell_small c small i s =

@@ -99,6 +99,9 @@ pub record Filled (f : ℕ → ℕ) (n k : ℕ) (l : List ℕ) : Type 0 where
   pub long : length l ≡ n
   pub done : (j : ℕ) → j < k → get_or l j 0 ≡ f j
 
+pub filled_none : (f : ℕ → ℕ) (n : ℕ) (l : List ℕ) → length l ≡ n → Filled f n 0 l
+filled_none f n l e = record { long = e; done = λ j h. absurd (omega arith) }
+
 pub filled_more : (f : ℕ → ℕ) (n k v : ℕ) (l : List ℕ) → k < n → v ≡ f k → Filled f n k l →
     Filled f n (k + 1) (set l k v)
 filled_more f n k v l h e g =

@@ -1,12 +1,11 @@
 -- Lists written over others: what stands where (`over_early`, `over_late`, `over_long`), one number more (`over_more`),
--- and a part lent from n on that comes back with more written at its front (`over_then`). What was written over zeros
--- lies within the list (`front_within`).
+-- and a part lent from n on that comes back with more written at its front (`over_then`).
 use mathlib.Core.Path.{◌≡◌, refl, ap, ◌∙◌}
 use mathlib.Core.List.{List, [], ◌∷◌, ◌++◌, append_assoc, append-nil}
 use Prim.Native.Nat.{ℕ, ◌+◌, ◌-◌, ◌≤◌, ◌<◌}
 use native.Mathlib.Numerals.{add-one}
 use native.Mathlib.Omega.{arith}
-use lib.ListN.{length, take, drop, set, get_or, replicate, length-append, length-drop, length-replicate}
+use lib.ListN.{length, take, drop, set, get_or, length-append, length-drop}
 use lib.ListN.{drop_of_length-le, get_or-append}
 use lib.Seq.{drop-cons, set-append_seam, take_all, take_at, drop_at, drop-drop, get_or-drop, get_or-append-add}
 use borrow.Rule.Slice.PartMut.{put_mid}
@@ -41,9 +40,3 @@ over_then xs ys o l last n en h e g =
     rw d (drop_of_length-le (drop n o) {i = length l - n} (rw length-drop (omega arith))) in
     let k : take n l ≡ xs = rw e (take_at xs (drop (length xs) o) n en) in
     rw (k, p, append-nil, g, t, append_assoc, length-append, en, drop-drop) refl
-
--- a text at the front of zeros lies within them
-pub front_within : (text : List ℕ) (k : ℕ) → length text ≤ k → length text ≤ length (over text (replicate k 0))
-front_within text k h =
-    let zeros = length-replicate {A = ℕ} k 0 in
-    omega (arith, over_long text (replicate k 0) (omega (arith, zeros)), zeros)

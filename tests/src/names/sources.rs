@@ -88,13 +88,14 @@ pub fn code(line: &str) -> &str {
 
 /// What stands between blanks and punctuation.
 pub fn parts(code: &str) -> impl Iterator<Item = &str> {
-    code.split(|c: char| c.is_whitespace() || "(){},;.&*!:<>".contains(c))
+    code.split(|c: char| c.is_whitespace() || "(){},;.&*!:".contains(c))
 }
 
-/// The words of a line before its comment.
+/// The words of a line before its comment; a type's parameters, too, are words of their own.
 pub fn words(line: &str) -> impl Iterator<Item = &str> {
     let code = code(line);
     parts(code)
+        .chain(parts(code).flat_map(|part| part.split(['<', '>'])))
         .chain(code.split_whitespace())
         .chain(code.contains("[]").then_some("[]"))
 }
