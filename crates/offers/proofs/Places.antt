@@ -1,5 +1,5 @@
--- Six places, one to a buyer: with nobody (`place_absent`), with a buyer (`place_taken`), and all of them
--- (`per_buyer_same`, `per_buyer-at`, `per_buyer_past`). Four for the owners: those there are (`four_short`), then zeros
+-- Six places, one to a buyer: with a buyer (`place_taken`), and all of them (`per_buyer_same`, `per_buyer-at`,
+-- `per_buyer_past`). Four for the owners: those there are (`four_short`), then zeros
 -- (`four_past`), which change no buyer's bundle (`four_bundle`).
 use mathlib.Core.Path.{◌≡◌, refl, sym, ap, ◌∙◌}
 use mathlib.Core.List.{List}
@@ -18,9 +18,6 @@ use Rattle.theory.proofs.Tests.{by_test}
 use Rattle.owners.specs.Owners.{bundle_from}
 use Rattle.owners.proofs.Owners.{bundle_past}
 use Rattle.offers.specs.Places.{four, at_place, per_buyer}
-
-pub place_absent : (m : ℕ) (f : ℕ → ℕ) (k : ℕ) → m ≤ k → 0 ≡ at_place m f k
-place_absent m f k h = rw (le-ltb k m h) refl
 
 pub place_taken : (m : ℕ) (f : ℕ → ℕ) (k : ℕ) → k < m → at_place m f k ≡ f (k + 1)
 place_taken m f k h = rw (lt-ltb k m h, add-one k) refl
