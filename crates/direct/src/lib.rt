@@ -11,7 +11,8 @@ ghost use Rattle.direct.specs.Answers.{refused_direct, reckoned, direct_answer};
 use sheet::{Fault, Refusal};
 use tables::{Bidders, Table};
 
-// A refusal, or the greatest total worth, its first owner list, and the payments.
+// A refusal, or the greatest total worth, its first owner list, and the payments. C takes it, so it has a number and is
+// no Result.
 #[repr(C)]
 #[derive(Drop)]
 pub struct Direct {

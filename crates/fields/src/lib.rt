@@ -65,7 +65,7 @@ pub fn read_field(sheet: &[u8], at: usize) -> FieldRead
     }
 }
 
-// The number of a field; 0 for a fault.
+// The number of a field; 0 for a fault, as `number_at` says, which contracts above go by.
 pub fn field_number(sheet: &[u8], at: usize) -> u32
     ensures { result ≡ number_at at sheet.now }
 {

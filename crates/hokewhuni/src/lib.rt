@@ -15,7 +15,8 @@ use sale::{Demand, Sale, Settled};
 use sheet::{Read, Worths};
 use writing::Wrote;
 
-// One field's answer as numbers: 0 and the field's number, or 6 and the faulty offset; and the next column.
+// One field's answer as numbers, since C has no Result: 0 and the field's number, or 6 and the faulty offset; and the
+// next column.
 #[repr(C)]
 #[derive(Drop)]
 pub struct FieldAnswer {
@@ -76,7 +77,7 @@ pub fn hokewhuni_direct_way(sheet: &[u8]) -> Direct
     direct::direct_way(sheet)
 }
 
-// The length of the printed sale in `out`, or 0 where it has no room.
+// The length of the printed sale in `out`, or 0 where it has no room, since C has no Option.
 pub fn hokewhuni_print_sale(sheet: &[u8], log: &mut [u8], out: &mut [u8]) -> usize
     ensures { PrintSays sheet.now log.old log.new out.old out.new result }
 {

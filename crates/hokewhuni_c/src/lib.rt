@@ -1,4 +1,5 @@
-// The C library: each function of `hokewhuni`, by the same name as a C symbol and with the same contract.
+// The C library: each function of `hokewhuni`, by the same name as a C symbol and with the same contract. Signatures
+// stand twice, here and there, since the symbols belong to this library alone.
 #![tactic(auto)]
 
 ghost use Rattle.std.specs.Prelude.{◌≡◌};

@@ -64,7 +64,8 @@ pub fn read_numbers(sheet: &[u8], size: Size) -> [u32; 96]
     array::from_fn(|k| worth_place(sheet, size, k))
 }
 
-// Question 6 at one place: a faulty field or line end.
+// Question 6 at one place: a faulty field or line end. (Lines i and places c are bounded here and below, and have no
+// type of their own, since `first_place` alone makes them.)
 fn malformed_at(sheet: &[u8], size: Size, i: usize, c: usize) -> bool
     requires { (i ≤ 6) × (c < 16) }
     ensures { result ≡ malformed (as_sheet 0 size.lots []) i c sheet.now }

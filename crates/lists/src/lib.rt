@@ -103,7 +103,8 @@ fn walk(
     at
 }
 
-// "The list of all allocations of n lots": writes their words, in order; answers how many.
+// "The list of all allocations of n lots": writes their words, in order; answers how many. Its contract has every word
+// of the table, which a slice of it does not have; `listed` lends the slice.
 pub fn list_lots(buyers: usize, lots: usize, out: &mut [u64]) -> usize
     requires { (buyers ≤ 6) × (lots ≤ 4) × (2401 ≤ length out.old) }
     ensures { (result ≡ length (lot_words buyers lots))

@@ -65,7 +65,7 @@ fn put_settled(out: &mut [u8], r: &Sale) -> Option<usize>
 }
 
 // Runs the sale of a sheet, with a record as `run_sale` has it, and prints its answer: the length of what is printed,
-// or 0 where it has no room.
+// or 0 where it has no room, since C has no Option.
 pub fn print_sale(sheet: &[u8], log: &mut [u8], out: &mut [u8]) -> usize
     ensures { PrintSays sheet.now log.old log.new out.old out.new result }
 {

@@ -5,7 +5,7 @@ ghost use Rattle.std.specs.Prelude.{◌≡◌, ℕ, ◌*◌, ◌≤◌, ◌<◌,
 ghost use Rattle.theory.specs.Lists.{over};
 ghost use Rattle.fields.specs.Fields.{columns, line_of};
 
-// Bytes at the front of an array.
+// Bytes at the front of an array, their length beside them, since nothing is on the heap.
 #[derive(Drop)]
 pub struct Text<const N: usize> {
     pub bytes: [u8; N],
@@ -22,7 +22,8 @@ impl<const N: usize> Text<N> {
     }
 }
 
-// Writes a number in six columns at the front of a buffer, the last digit first.
+// Writes a number in six columns at the front of a buffer, the last digit first. By hand: `write!` would want a writer
+// over the buffer, and answer a Result that is never an error.
 fn put_field(out: &mut [u8], n: u32)
     requires { (6 ≤ length out.old) × (n < 1000000) }
     ensures { out.new ≡ over (columns 6 n) out.old }

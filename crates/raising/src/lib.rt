@@ -33,7 +33,7 @@ impl Valuations<'_> {
         u32::from(self.worths[at].saturating_sub(prices[at]))
     }
 
-    // What each buyer has left; places of absent buyers hold 0.
+    // What each buyer has left; places of absent buyers hold 0, so a loop over the buyers fills it.
     pub fn payoffs(&self, prices: &[u16], buyers: usize) -> [u32; 6]
         requires { (buyers ≤ 6) × (2 ≤ self.now.bundles) × Rows prices.now × AtMost 9999 self.now.worths.now }
         ensures { AtMost 9999 result × ((i : ℕ) → 1 ≤ i → i ≤ buyers → payoff_at result i

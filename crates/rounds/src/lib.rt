@@ -81,7 +81,8 @@ impl Terms<'_> {
 }
 
 // At most `limit` rounds from these prices on, judged in the economies up to that of number `last`, by the words of all
-// allocations. Each writes its set's number to the record's next byte. The answer is how many there were.
+// allocations. Each writes its set's number to the record's next byte. The answer is how many there were. (Its eight
+// parameters are what `Opens` and `Sold` relate; the one caller has them apart.)
 pub fn run_rounds(
     list: &[u64],
     worths: &[u16],

@@ -1,5 +1,6 @@
-// What sales, demand answers and the question whether prices are settled answer, and their refusals. The meaning is in
-// specs/, the theorems in proofs/.
+// What sales, demand answers and the question whether prices are settled answer, and their refusals. C takes these
+// answers, so each has a refusal's number and place, 0 and 0 for none, and is no Result. The meaning is in specs/, the
+// theorems in proofs/.
 #![tactic(auto)]
 
 ghost use Rattle.std.specs.Prelude.{◌≡◌};

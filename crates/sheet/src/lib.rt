@@ -10,7 +10,7 @@ mod size;
 
 pub use size::Size;
 
-// A refusal's number and place; 0 and 0 for none.
+// A refusal's number and place, as C's answers have them; 0 and 0 for none.
 #[derive(Drop)]
 pub struct Fault {
     pub number: u8,
@@ -52,7 +52,7 @@ pub struct LotSheet {
     pub worths: [u16; 96],
 }
 
-// A refusal, or an accepted sheet's buyers and lots.
+// A refusal, or an accepted sheet's buyers and lots. C takes it, so it has a number and is no Result.
 #[repr(C)]
 #[derive(Drop)]
 pub struct Read {

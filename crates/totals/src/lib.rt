@@ -117,7 +117,8 @@ pub fn first_of_total(list: &[u64], table: &Table, total: u32) -> Option<u64>
         .find(|word| has_total(table, total, *word))
 }
 
-// The number of the set of buyers that own something.
+// The number of the set of buyers that own something. (`keen_set` of supply has such a loop too; one for both, over a
+// test, would be longer by the test's contract and law.)
 fn set_of(word: u64, buyers: usize) -> usize
     requires { buyers ≤ 6 }
     ensures { Is (word_holders buyers word) result 63 }

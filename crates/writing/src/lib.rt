@@ -145,7 +145,8 @@ pub fn write_sheet(buyers: u32, lots: u32, worths: &[u32], out: &mut [u8]) -> Wr
 }
 
 impl Wrote {
-    // The text of what was written into some bytes, or of a refusal, whose line is put at their front.
+    // The text of what was written into some bytes, or of a refusal, whose line is put at their front. By C's number,
+    // since that is what both entries that write have at hand.
     pub fn text(self, mut bytes: [u8; 559]) -> Text<559>
         requires { self.place < 1000000 }
         ensures { result ≡ wrote_text self bytes }
