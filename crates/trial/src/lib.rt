@@ -16,8 +16,8 @@ use printing::Text;
 use sheet::{Refusal, Size};
 use writing::{Wrote, ask_size, write_sheet};
 
-// What bundle s is worth without lot j + 1, by the worths of the bundles from 1 on; 0, the least worth, if it has not
-// that lot.
+// What bundle s is worth without lot j + 1, by the worths of the bundles from 1 on; 0 if it has not that lot, as the
+// definition has it, so that the greatest of these is of the lots that it has.
 fn worth_without(row: &[u32], s: usize, j: usize) -> u32
     requires { (j < 4) × (s ≤ length row.now + 1) × ((k : ℕ) → get_or row.now k 0 ≤ 9999) }
     ensures { Is (worth_without (row_worth row.now) s j) result 9999 }
@@ -72,7 +72,7 @@ fn most_worths(number: u16, n: usize, top: u32) -> [u32; 90]
     t
 }
 
-// Questions 3, 4 and 7.
+// Questions 3, 4 and 7, of three numbers; the place is 0, since they have no offsets.
 fn ask_trial(buyers: u32, lots: u32, top: u32) -> Result<Size, Refusal>
     ensures fault { refused_as result ≡ numbers_fault buyers lots top }
     ensures size { IfOk result (λ size. IsSize buyers lots size) }

@@ -82,7 +82,7 @@ pub fn ask_size(buyers: u32, lots: u32) -> Result<Size, Refusal>
     Ok(Size { buyers: m, lots: n })
 }
 
-// The questions, of a list and a buffer of so many bytes.
+// The questions, of a list and a buffer of so many bytes. A list has no offsets, so the place is 0.
 fn ask_list(buyers: u32, lots: u32, worths: &[u32], room: usize) -> Result<Size, Refusal>
     ensures fault { refused_as result ≡ write_fault buyers lots worths.now room }
     ensures size { IfOk result (λ size. IsSize buyers lots size) }

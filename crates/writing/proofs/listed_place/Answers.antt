@@ -1,6 +1,6 @@
 -- `writing::listed_place` meets its contract.
 use Rattle.std.proofs.Common.{◌+◌, ◌-◌, ◌*◌, ◌/◌, ◌%◌, get_or, sym, ap, ◌∙◌}
-use Rattle.sheet.proofs.Places.{place_worth}
+use Rattle.writing.proofs.Cells.{place_worth}
 use Rattle.writing.specs.Lists.{listed}
 use Rattle.writing.proofs.listed_place.Goals as goal
 
