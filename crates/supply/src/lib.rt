@@ -111,10 +111,10 @@ fn first_missing(word: u64, other: u64, sets: usize) -> Option<usize>
     requires { sets ≤ 64 }
     ensures { Is (least sets 0 (λ n. bit n word && not (bit n other))) (one_more result) 64 }
 {
-    for n in 0..sets {
-        if has(word, n) && !has(other, n) {
-            return Some(n);
-        }
+    let missing = word & !other;
+    let n = missing.trailing_zeros() as usize;
+    if n < sets {
+        return Some(n);
     }
     None
 }
