@@ -201,17 +201,6 @@ keen_all m i r ps few q e =
           ap (bit (j - 1)) all ∙ number_bit m 1 (keen ps) (j - 1) (omega arith) ∙ ap (keen ps) b;
     }
 
--- the first of one word that the other lacks
-pub both : (a b : Bool) → a ≡ true → b ≡ false → (a && not b) ≡ true
-both a b p q = rw (p, q)
-
-pub not_first : (a b : Bool) → a ≡ false → (a && not b) ≡ false
-not_first a b p = rw p
-
-pub not_second : (a b : Bool) → b ≡ true → (a && not b) ≡ false
-not_second true b p = rw p
-not_second false b p = refl
-
 -- the lowest set by words
 pub words-lowest : (m last : ℕ) (words ps : List ℕ) (sets k w all r : ℕ) → m ≤ 6 → sets ≡ 2 ^ m → KeenBuyers m ps k →
     Word 6 (among 6 k) w →

@@ -1,6 +1,7 @@
 -- Words of 64 bits as sets of sets. Offers the bits of words that two others make (`bit_or_lem`, `bit_and_lem`), the
--- words of subsets (`table_subsets`), and which sets are inside an economy and covered by another set there
--- (`inside_but`, `covers_all`, `covers_but`). Numbers below 64 are tried out.
+-- lowest set of one word that another lacks (`lowest_missing`, `none_missing`), the words of subsets (`table_subsets`),
+-- and which sets are inside an economy and covered by another set there (`inside_but`, `covers_all`, `covers_but`).
+-- Numbers below 64 are tried out.
 use mathlib.Core.Path.{◌≡◌, refl, sym, ap, ◌∙◌}
 use mathlib.Core.Bool.{Bool, true, false, not, ◌&&◌, ◌||◌}
 use mathlib.Core.List.{List, [], ◌∷◌}
@@ -15,7 +16,11 @@ use lib.ListN.{get_or}
 use lib.Pow.{pow_pos, pow_mono}
 use borrow.Author.Tests.{eq-eqb, ne_eqb, ltb-true, not-true}
 use Rattle.theory.specs.Sums.{Among}
-use Rattle.theory.specs.Tests.{every}
+use Rattle.std.specs.Int.{bit_at, bit_not, trailing_zeros, w64}
+use Rattle.std.specs.Int.Count.{trailing_of_zero}
+use Rattle.std.proofs.lemmas.Nat.Bits.{bit_at_not, bit_at-lt, bit_at-zero, bit_at-trailing_zeros}
+use Rattle.std.proofs.lemmas.Nat.{and_le_l}
+use Rattle.theory.specs.Tests.{every, least}
 use Rattle.theory.specs.Coalitions.{inside, covers}
 use Rattle.theory.proofs.Tests.{by_test, same_test, fails, itself, Means, means_via, imp_means, and_means, or_means}
 use Rattle.theory.proofs.Tests.{every_means, not_means, eqb_means}
@@ -57,6 +62,65 @@ bit_and_lem n a b =
 
 pub bit_zero : (n : ℕ) → bit n 0 ≡ false
 bit_zero n = let z : 0 / 2 ^ n ≡ 0 = div-eq_of_lt (omega (arith, pow_pos n)) in rw z
+
+-- a bit of the other side of a word
+flipped : (x : ℕ) → x < 2 → eqb (1 - x) 1 ≡ not (eqb x 1)
+flipped zero h = refl
+flipped (suc zero) h = refl
+flipped (suc (suc x)) h = absurd (omega arith)
+
+-- the bits of a word that another lacks
+pub missing_bit : (n a b : ℕ) → b < 2 ^ 64 → n < 64 → bit n (bit_and a (bit_not w64 b)) ≡ (bit n a && not (bit n b))
+missing_bit n a b hb hn =
+    let e : bit n (bit_not w64 b) ≡ not (bit n b) =
+    ap (λ x. eqb x 1) (bit_at_not w64 b n hb hn) ∙ flipped (bit_at b n) (bit_at-lt b n) in
+    bit_and_lem n a (bit_not w64 b) ∙ rw e
+
+-- the least number of some that passes, and that none does
+pub least_is : (k s n : ℕ) (t : ℕ → Bool) → s ≤ n → n < s + k → t n ≡ true →
+    ((i : ℕ) → s ≤ i → i < n → t i ≡ false) → least k s t ≡ suc n
+least_is zero s n t lo hi p f = absurd (omega arith)
+least_is (suc k) s n t lo hi p f =
+    elim (ℕ_discrete s n) [
+      | yes e ↦ rw (e, p)
+      | no d ↦ rw (f s (omega arith) (omega arith))
+          (least_is k (suc s) n t (omega arith) (omega arith) p (λ i l u. f i (omega arith) u))
+    ]
+
+pub least_zero : (k s : ℕ) (t : ℕ → Bool) → ((i : ℕ) → s ≤ i → i < s + k → t i ≡ false) → least k s t ≡ 0
+least_zero zero s t f = refl
+least_zero (suc k) s t f =
+    rw (f s (omega arith) (omega arith)) (least_zero k (suc s) t (λ i l u. f i (omega arith) (omega arith)))
+
+-- the lowest set of a word that another lacks, by the place of the lowest bit
+module _ (a b sets : ℕ) (ha : a < 2 ^ 64) (hb : b < 2 ^ 64) (hs : sets ≤ 64) where
+  abbrev pub missing : ℕ → Bool
+  missing n = bit n a && not (bit n b)
+
+  abbrev rest : ℕ
+  rest = bit_and a (bit_not w64 b)
+
+  lowest_bit : 0 < rest → (trailing_zeros w64 rest < 64) × (bit_at rest (trailing_zeros w64 rest) ≡ 1)
+      × ((i : ℕ) → i < trailing_zeros w64 rest → bit_at rest i ≡ 0)
+  lowest_bit h = bit_at-trailing_zeros w64 rest h (omega (arith, and_le_l a (bit_not w64 b)))
+
+  pub lowest_missing : trailing_zeros w64 rest < sets → least sets 0 missing ≡ suc (trailing_zeros w64 rest)
+  lowest_missing h =
+      elim (ℕ_discrete rest 0) [
+        | yes e ↦ let z : trailing_zeros w64 rest ≡ 64 = rw e (trailing_of_zero 64) in absurd (omega arith)
+        | no d ↦ let l = lowest_bit (omega arith) in
+            least_is sets 0 (trailing_zeros w64 rest) missing (omega arith) (omega arith)
+            (sym (missing_bit _ a b hb l.0) ∙ ap (λ x. eqb x 1) l.1)
+            (λ i _ u. sym (missing_bit i a b hb (omega arith)) ∙ ap (λ x. eqb x 1) (l.2 i u))
+      ]
+
+  pub none_missing : sets ≤ trailing_zeros w64 rest → least sets 0 missing ≡ 0
+  none_missing h =
+      least_zero sets 0 missing (λ i _ u. sym (missing_bit i a b hb (omega arith)) ∙
+      elim (ℕ_discrete rest 0) [
+        | yes e ↦ rw e (ap (λ x. eqb x 1) (bit_at-zero i))
+        | no d ↦ ap (λ x. eqb x 1) ((lowest_bit (omega arith)).2 i (omega arith))
+      ])
 
 -- laws of numbers below 64, by computing
 abbrev pub alike : Bool → Bool → Bool

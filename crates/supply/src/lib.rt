@@ -38,12 +38,16 @@ static SUBSETS: [u64; 64] = [
     0x1111111111111111, 0x3333333333333333, 0x5555555555555555, 0xFFFFFFFFFFFFFFFF,
 ];
 
-// The sets of so many buyers, the empty one among them.
+// How many sets so many buyers have, by their number.
+static SETS: [usize; 7] = [1, 2, 4, 8, 16, 32, 64];
+
+// The sets of so many buyers, the empty one among them. By a table: a shift as the bound of a loop is made anew at each
+// turn, and a sale took 1.3 times as long.
 pub fn sets_of(buyers: usize) -> usize
     requires { buyers ≤ 6 }
     ensures { Is (2 ^ buyers) result 64 }
 {
-    power(buyers)
+    SETS[buyers]
 }
 
 // Whether buyer i is a member of the set of a number.
@@ -107,10 +111,10 @@ fn first_missing(word: u64, other: u64, sets: usize) -> Option<usize>
     requires { sets ≤ 64 }
     ensures { Is (least sets 0 (λ n. bit n word && not (bit n other))) (one_more result) 64 }
 {
-    for n in 0..sets {
-        if has(word, n) && !has(other, n) {
-            return Some(n);
-        }
+    let missing = word & !other;
+    let n = missing.trailing_zeros() as usize;
+    if n < sets {
+        return Some(n);
     }
     None
 }

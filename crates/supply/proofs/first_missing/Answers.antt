@@ -1,29 +1,23 @@
-use Rattle.std.proofs.Common.{arith, sym, ◌∙◌}
-use Rattle.theory.proofs.Loops.{least_passed, least_here}
-use Rattle.numbers.specs.Numbers.{bit}
-use Rattle.supply.proofs.Choosing.{both, not_first, not_second}
-use Rattle.supply.proofs.first_missing.Invariants.{missing}
+-- `supply::first_missing` meets its contract.
+use Rattle.std.proofs.Common.{arith, sym}
+use Rattle.std.proofs.Math.Facts.{Fits-lt-pow}
+use Rattle.supply.proofs.Words.{lowest_missing, none_missing}
 use Rattle.supply.proofs.first_missing.Goals as goal
-use Rattle.supply.proofs.first_missing.Goals.{else-has-via-then-has+else-not-has, else-has-via-else-has}
 
-pub returns-then-not-has : goal.returns-then-not-has
-returns-then-not-has c =
-    let n = c.loop-n.n in
-    let found = both (bit n c.args.word) (bit n c.args.other) (sym c.has.ensures ∙ c.if-has.true)
-    (sym c.has-then-has.ensures ∙ c.if-not-has.true) in
+pub returns-then-n-sets : goal.returns-then-n-sets
+returns-then-n-sets c =
+    let a = c.args in
     record {
-      is = least_here (missing c.args.word c.args.other) c.args.sets n _ c.loop-n-test.true c.loop-n.invariant found;
+      is = sym (lowest_missing a.word a.other a.sets (Fits-lt-pow c.ranges.word) (Fits-lt-pow c.ranges.other)
+          c.requires c.if-n-sets.true);
       most = omega arith;
     }
 
-pub loop-n-preserved : goal.loop-n-preserved
-loop-n-preserved c =
-    let l = c.loop-n in
+pub returns : goal.returns
+returns c =
     let a = c.args in
-    let step = least_passed (missing a.word a.other) a.sets l.n _ c.loop-n-test.true l.invariant in
-    elim c.else-has.branch [
-      | else-has-via-then-has+else-not-has w ↦
-          step (not_second (bit l.n a.word) (bit l.n a.other) (sym w.has-then-has.ensures ∙ w.if-not-has.false))
-      | else-has-via-else-has w ↦
-          step (not_first (bit l.n a.word) (bit l.n a.other) (sym c.has.ensures ∙ w.if-has.false))
-    ]
+    record {
+      is = sym (none_missing a.word a.other a.sets (Fits-lt-pow c.ranges.word) (Fits-lt-pow c.ranges.other) c.requires
+          c.if-n-sets.false);
+      most = omega arith;
+    }
