@@ -30,9 +30,12 @@ fn put_field(out: &mut [u8], n: u32)
 {
     let mut rest = n;
     for k in 0..6 {
-        let digit = b'0' + (rest % 10) as u8;
-        out[5 - k] = if k == 0 || rest != 0 { digit } else { b' ' };
-        rest /= 10;
+        if k == 0 || rest != 0 {
+            out[5 - k] = b'0' + (rest % 10) as u8;
+            rest /= 10;
+        } else {
+            out[5 - k] = b' ';
+        }
     }
 }
 
