@@ -27,7 +27,7 @@ place_fault q n zero = refl
 place_fault q n (suc k) = refl
 
 -- what its answer says of the questions after it
-abbrev Asked : ℕ → ℕ → ℕ → Option ℕ → Type 0
+abbrev pub Asked : ℕ → ℕ → ℕ → Option ℕ → Type 0
 Asked q n x o = fault_at (suc q) o ≡ ask_each (suc q) n x (λ _. fault 0 0)
 
 refused_by : (q n x p : ℕ) (rest : Unit {0} → Fault) → Asked q n x (Some p) →
@@ -35,7 +35,7 @@ refused_by : (q n x p : ℕ) (rest : Unit {0} → Fault) → Asked q n x (Some p
 refused_by q n zero p rest e = absurd (let z : suc q ≡ 0 = ap (λ (f : Fault). f.number) e in omega arith)
 refused_by q n (suc k) p rest e = e
 
-passed_by : (q n x : ℕ) → Asked q n x None → x ≡ 0
+pub passed_by : (q n x : ℕ) → Asked q n x None → x ≡ 0
 passed_by q n zero e = refl
 passed_by q n (suc k) e = absurd (let z : 0 ≡ suc q = ap (λ (f : Fault). f.number) e in omega arith)
 
