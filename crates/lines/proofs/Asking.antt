@@ -1,11 +1,13 @@
 -- The questions in their order: what each answer says of the sheet's fault. Offers the answer of a test put to each
 -- place (`place_tested`, `place_found`), a question's fault by it (`place_fault`), and one law for each way out of
--- `ask_lines`.
-use mathlib.Core.Path.{◌≡◌, refl, ap, ◌∙◌}
+-- `ask_lines` and of `ask_each`.
+use mathlib.Core.Path.{◌≡◌, refl, ap, subst, ◌∙◌}
+use mathlib.Core.Logic.{◌≢◌}
 use mathlib.Core.Bool.{Bool}
 use mathlib.Core.List.{List, []}
 use Prim.Native.Nat.{ℕ, zero, suc, ◌/◌, ◌%◌, ◌^◌}
 use native.Mathlib.Omega.{arith}
+use borrow.Author.Tests.{ne_eqb}
 use Rattle.std.specs.Prelude.{Option, Some, None}
 use Rattle.sheet.specs.declared.Fault.{Fault}
 use Rattle.sheet.specs.Sheets.{offset, Sheet, as_sheet}
@@ -27,7 +29,7 @@ place_fault q n zero = refl
 place_fault q n (suc k) = refl
 
 -- what its answer says of the questions after it
-abbrev Asked : ℕ → ℕ → ℕ → Option ℕ → Type 0
+abbrev pub Asked : ℕ → ℕ → ℕ → Option ℕ → Type 0
 Asked q n x o = fault_at (suc q) o ≡ ask_each (suc q) n x (λ _. fault 0 0)
 
 refused_by : (q n x p : ℕ) (rest : Unit {0} → Fault) → Asked q n x (Some p) →
@@ -35,9 +37,16 @@ refused_by : (q n x p : ℕ) (rest : Unit {0} → Fault) → Asked q n x (Some p
 refused_by q n zero p rest e = absurd (let z : suc q ≡ 0 = ap (λ (f : Fault). f.number) e in omega arith)
 refused_by q n (suc k) p rest e = e
 
-passed_by : (q n x : ℕ) → Asked q n x None → x ≡ 0
+pub passed_by : (q n x : ℕ) → Asked q n x None → x ≡ 0
 passed_by q n zero e = refl
 passed_by q n (suc k) e = absurd (let z : 0 ≡ suc q = ap (λ (f : Fault). f.number) e in omega arith)
+
+-- the same of any number r that the question goes by
+numbered : (q r n x : ℕ) (o : Option ℕ) → Asked q n x o → fault_at r o ≡ ask_each r n x (λ _. fault 0 0)
+numbered q r n zero None e = refl
+numbered q r n zero (Some p) e = absurd (let z : suc q ≡ 0 = ap (λ (f : Fault). f.number) e in omega arith)
+numbered q r n (suc k) None e = absurd (let z : 0 ≡ suc q = ap (λ (f : Fault). f.number) e in omega arith)
+numbered q r n (suc k) (Some p) e = ap (fault r) (ap (λ (f : Fault). f.place) e)
 
 -- questions 6, 7 and 8 of a sheet b with the numbers ws
 module _ (b ws : List ℕ) (m n : ℕ) where
@@ -61,6 +70,20 @@ module _ (b ws : List ℕ) (m n : ℕ) where
   by_numbers : (first_wrong 7 [] w ≡ first_wrong 7 b w) × (first_wrong 8 [] w ≡ first_wrong 8 b w)
   unfolding first_wrong
   by_numbers = (refl, refl)
+
+  -- one question by its number: 6, 7 or any other
+  pub each_malformed : (o : Option ℕ) → Six o → fault_at 6 o ≡ ask_each 6 n (first_wrong 6 b w) (λ _. fault 0 0)
+  each_malformed o e = rw by_bytes at e
+
+  pub each_large : (o : Option ℕ) → Seven o → fault_at 7 o ≡ ask_each 7 n (first_wrong 7 b w) (λ _. fault 0 0)
+  each_large o e = rw by_numbers.0 at e
+
+  pub each_falling : (q : ℕ) (o : Option ℕ) → q ≢ 6 → q ≢ 7 → Eight o →
+      fault_at q o ≡ ask_each q n (first_wrong q b w) (λ _. fault 0 0)
+  unfolding first_wrong
+  each_falling q o six seven e =
+      let falls : first_wrong 8 [] w ≡ first_wrong q b w = rw (ne_eqb q 6 six, ne_eqb q 7 seven) refl in
+      numbered 7 q n (first_wrong q b w) o (subst (λ x. Asked 7 n x o) falls e)
 
   pub lines-malformed : (p : ℕ) → Six (Some p) → fault 6 p ≡ lines_fault b w
   unfolding lines_fault

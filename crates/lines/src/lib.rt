@@ -10,7 +10,7 @@ ghost use Rattle.sheet.specs.Refusals.{refused_as, fault_at};
 ghost use Rattle.lines.specs.Places.{first_place};
 
 use numbers::{has, power};
-use sheet::{Refusal, Size};
+use sheet::{Fault, Refusal, Size};
 use std::array;
 
 // The bundles of so many lots, the empty one among them.
@@ -150,6 +150,37 @@ pub fn first_falling(numbers: &[u32; 96], size: Size) -> Option<u32>
         (first_wrong 8 [] (as_sheet size.buyers size.lots numbers.now)) (λ _. fault 0 0) }
 {
     first_place(size, |i, c| falls_at(numbers, size, i, c))
+}
+
+// A question's fault, if a place is wrong.
+fn fault_at(question: u8, wrong: Option<u32>) -> Fault
+    ensures { result ≡ fault_at question wrong }
+{
+    match wrong {
+        Some(place) => Fault {
+            number: question,
+            place,
+        },
+        None => Fault {
+            number: 0,
+            place: 0,
+        },
+    }
+}
+
+// Question 6, 7 or 8 by its number, put to every place of the lines: the fault at the first that is wrong. A number that
+// is neither 6 nor 7 asks what question 8 does, under its own number.
+pub fn ask_each(question: u8, sheet: &[u8], numbers: &[u32; 96], m: usize, n: usize) -> Fault
+    requires { (m ≤ 6) × (n ≤ 4) }
+    ensures { result ≡ ask_each question n
+        (first_wrong question sheet.now (as_sheet m n numbers.now)) (λ _. fault 0 0) }
+{
+    let size = Size { buyers: m, lots: n };
+    match question {
+        6 => fault_at(6, first_malformed(sheet, size)),
+        7 => fault_at(7, first_large(numbers, size)),
+        _ => fault_at(question, first_falling(numbers, size)),
+    }
 }
 
 // Questions 6, 7 and 8.

@@ -1,7 +1,7 @@
 -- Each set of bidders has a number, the sum of 2 ^ j over its bidders' rows j, and a proper subset has a lower one
--- (`layout_ranked`). Offers the laws of `number` (`number_bit`, `number_below`, `number_same`), of demand
--- sets (`demand_bit`, `demand_below`), and that m buyers are laid out (`buyers_laid_out`), with a house too
--- (`house_laid_out`).
+-- (`layout_ranked`). Offers the laws of `number` (`number_bit`, `number_below`, `number_same`, and `number_down` and
+-- `number_counted` for a loop that counts down), of demand sets (`demand_bit`, `demand_below`), and that m buyers are
+-- laid out (`buyers_laid_out`), with a house too (`house_laid_out`).
 use mathlib.Core.Path.{◌≡◌, refl, sym, ap, ◌∙◌}
 use mathlib.Core.Bool.{Bool, true, false, ◌&&◌}
 use Prim.Native.Nat.{ℕ, zero, suc, ◌+◌, ◌-◌, ◌*◌, ◌/◌, ◌%◌, ◌^◌, ◌≤◌, ◌<◌}
@@ -50,6 +50,31 @@ pub number_same : (k s : ℕ) (t u : ℕ → Bool) → ((i : ℕ) → Among k s 
 unfolding number
 number_same zero s t u h = refl
 number_same (suc k) s t u h = rw (h s (omega arith), number_same k (suc s) t u (λ i r. h i (omega arith)))
+
+-- a number of some of 1 to m, of which those above i are in n
+pub number_down : (m i n : ℕ) (t : ℕ → Bool) → 1 ≤ i → i ≤ m → n ≡ number (m - i) (suc i) t →
+    when (t i) 1 + 2 * n ≡ number (m - (i - 1)) (suc (i - 1)) t
+unfolding number
+number_down m i n t lo hi e =
+    let a : m - (i - 1) ≡ suc (m - i) = omega arith in
+    let b : suc (i - 1) ≡ i = omega arith in
+    rw (a, b, e)
+
+-- a loop that takes them in from m down to 1, and whose value is n i once those above i are in
+pub number_counted : (m : ℕ) (t : ℕ → Bool) (n : ℕ → ℕ) → n m ≡ 0 →
+    ((i : ℕ) → 1 ≤ i → i ≤ m → n (i - 1) ≡ when (t i) 1 + 2 * n i) →
+    (k : ℕ) → k ≤ m → n (m - k) ≡ number k (suc (m - k)) t
+unfolding number
+number_counted m t n start step zero h = let all : m - 0 ≡ m = omega arith in ap n all ∙ start
+number_counted m t n start step (suc k) h =
+    let i = m - k in
+    let below : m - suc k ≡ i - 1 = omega arith in
+    let left : m - i ≡ k = omega arith in
+    let above : m - (i - 1) ≡ suc k = omega arith in
+    let so_far : n i ≡ number (m - i) (suc i) t = rw left (number_counted m t n start step k (omega arith)) in
+    let lo : 1 ≤ i = omega arith in
+    let hi : i ≤ m = omega arith in
+    rw below (step i lo hi ∙ rw above at (number_down m i (n i) t lo hi so_far))
 
 -- no number with all these bits is lower
 number_under : (k s : ℕ) (t : ℕ → Bool) (x : ℕ) → ((j : ℕ) → j < k → t (s + j) ≡ true → bit j x ≡ true) → number k s t

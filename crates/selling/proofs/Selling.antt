@@ -19,12 +19,13 @@ use Rattle.rounds.specs.Rounds.{Opens, OwnPrices, Sold}
 use Rattle.std.specs.Prelude.{Ok, Err}
 use Rattle.sheet.specs.declared.LotSheet.{LotSheet}
 use Rattle.sheet.specs.declared.Refusal.{Refusal}
-use Rattle.sheet.specs.Sheets.{Sheet}
+use Rattle.sheet.specs.declared.Worths.{Worths}
+use Rattle.sheet.specs.Sheets.{Sheet, as_sheet, sheet_of}
 use Rattle.sheet.specs.Questions.{fault}
 use Rattle.sheet.specs.Refusals.{fault_of}
 use Rattle.sheet.specs.Answers.{read_as, worths_read}
-use Rattle.reading.proofs.Told.{refused_fault, refused_sheet_no}
-use Rattle.reading.proofs.Told.{accepted_sheet_yes, accepted_sheet_none, accepted_sheet}
+use Rattle.reading.proofs.Reading.{read_accepted}
+use Rattle.reading.proofs.Told.{refused_fault, refused_sheet_no, accepted_sheet_yes, accepted_sheet}
 use Rattle.offers.specs.Offers.{Offer, lots_among, lots_of, offer_of, layout, worth_of, the_auction}
 use Rattle.offers.specs.Rounds.{round_limit, start_prices, sets_from, sale_sets, last_prices}
 use Rattle.offers.specs.Claims.{Regular}
@@ -94,6 +95,24 @@ module _ (b : List ℕ) (r : Refusal) (e : read_as (Err r) ≡ worths_read b) wh
       let no = refused_sheet_no b r e in
       record { answer = rw (no, no) (q ∙ ap refused_sale (refused_fault b r e)); bytes = rw (no, no) refl }
 
+-- what is asked of a sheet that is accepted
+module _ (b : List ℕ) (r : Worths) (e : r ≡ worths_read b) where
+  module _ (z : r.number ≡ 0) where
+    pub asked : Sells r.buyers r.lots r.worths
+    asked =
+        let told = read_accepted b r e z in
+        let read : as_sheet r.buyers r.lots r.worths ≡ sheet_of b = rw (told.buyers, told.lots, told.worths) refl in
+        let s = shape b told.none in
+        subst (λ (w : Sheet). Sells w.buyers w.lots w.worths) (sym read)
+        (record {
+          few_buyers = s.few_buyers;
+          some_lots = s.some_lots;
+          few_lots = s.few_lots;
+          worths = s.long;
+          small = s.small;
+          topped = topped b told.none;
+        })
+
 module _ (b : List ℕ) (t : LotSheet) (e : read_as (Ok t) ≡ worths_read b) where
   abbrev O : Offer
   O = lots_among t.size.buyers t.size.lots t.worths
@@ -101,25 +120,14 @@ module _ (b : List ℕ) (t : LotSheet) (e : read_as (Ok t) ≡ worths_read b) wh
   pub same : O ≡ offer_of b
   same = ap lots_of (accepted_sheet b t e)
 
-  pub asked : Sells t.size.buyers t.size.lots t.worths
-  asked =
-      let none = accepted_sheet_none b t e in
-      let s = shape b none in
-      subst (λ (w : Sheet). Sells w.buyers w.lots w.worths) (sym (accepted_sheet b t e))
-      (record {
-        few_buyers = s.few_buyers;
-        some_lots = s.some_lots;
-        few_lots = s.few_lots;
-        worths = s.long;
-        small = s.small;
-        topped = topped b none;
-      })
+  pub asked_sheet : Sells t.size.buyers t.size.lots t.worths
+  asked_sheet = asked b (read_as (Ok t)) e refl
 
   -- l is question 9's sum as it was reckoned
   module _ (l : ℕ) (el : l ≡ limit_by 1 t.size.buyers (2 ^ t.size.lots) t.worths) where
     pub limit_is : l ≡ round_limit O
     limit_is =
-        el ∙ limit_found O (lots_packed t.size.buyers t.size.lots t.worths asked.few_buyers asked.few_lots)
+        el ∙ limit_found O (lots_packed t.size.buyers t.size.lots t.worths asked_sheet.few_buyers asked_sheet.few_lots)
 
     same_limit : l ≡ round_limit (offer_of b)
     same_limit = limit_is ∙ ap round_limit same

@@ -16,7 +16,7 @@ use Rattle.lists.specs.Words.{lot_words, Lent}
 use Rattle.lists.proofs.Packed.{lots_lent}
 use Rattle.sale.specs.declared.Settled.{Settled}
 use Rattle.sale.specs.Answers.{refused_settled, judged, settled_answer}
-use Rattle.selling.proofs.Selling.{sells_regular, same, asked}
+use Rattle.selling.proofs.Selling.{sells_regular, same, asked_sheet}
 
 module _ (b : List ℕ) (r : Refusal) (e : read_as (Err r) ≡ worths_read b) (ps : List ℕ) where
   pub settled_refused : (d : Settled) → d ≡ refused_settled (fault_of r) →
@@ -32,7 +32,7 @@ module _ (b : List ℕ) (t : LotSheet) (e : read_as (Ok t) ≡ worths_read b) (p
       record { number = 0; place = 0; settled = x } ≡ settled_answer b ps
   unfolding judged settled_answer
   settled_told l all words bundles x is =
-      let sells = asked b t e in
+      let sells = asked_sheet b t e in
       let lent = lots_lent t.size.buyers t.size.lots l t.worths all sells.few_buyers sells.few_lots
       (sells_regular sells) words bundles in
       rw (accepted_sheet_yes b t e, is (lots_among t.size.buyers t.size.lots t.worths) lent)

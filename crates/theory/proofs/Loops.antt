@@ -1,12 +1,13 @@
 -- Loops over a range: what a definition over it still has to do from k on. Offers one law for each way through a loop
 -- that looks for the first that passes (`least`), that tests all (`every`), that takes in one number after another
 -- (`most`, `sum`, `some`, `every`), that fills a list place by place (`Filled`, `tabulate`), and that goes over one
--- place by place (`Revised`). A loop over a list: what is still to do from place k on, for the greatest value.
+-- place by place (`Revised`). A loop over a list: what is still to do from place k on, for the greatest value and for
+-- whether some member passes (`some_walked`: a walk by places answers what `some` says).
 use mathlib.Core.Path.{◌≡◌, refl, sym, ap, subst, ◌∙◌}
 use mathlib.Core.Logic.{⊎_elim}
 use mathlib.Core.Bool.{Bool, true, false, ◌&&◌, ◌||◌, and_assoc, or_assoc}
 use mathlib.Core.List.{List, ◌∷◌}
-use Prim.Native.Nat.{ℕ, suc, max, ◌+◌, ◌-◌, ◌<◌, ◌≤◌}
+use Prim.Native.Nat.{ℕ, zero, suc, max, ◌+◌, ◌-◌, ◌<◌, ◌≤◌}
 use native.Mathlib.Nat.{zero-add, eq-or-lt_of_le}
 use native.Mathlib.Numerals.{add-one}
 use native.Mathlib.Omega.{arith}
@@ -16,6 +17,7 @@ use Rattle.theory.specs.Sums.{pick, sum}
 use Rattle.theory.specs.Lists.{most, tabulate, up_to}
 use Rattle.theory.specs.Tests.{every, some, least}
 use Rattle.theory.proofs.Lists.{tabulate-at, tabulate-length}
+use Rattle.theory.proofs.Tests.{by_test}
 
 -- T is what the whole loop answers
 module _ (t : ℕ → Bool) (n k T : ℕ) where
@@ -90,9 +92,31 @@ module _ (l : List ℕ) (k : ℕ) where
         max y (most f (drop (k + 1) l)) ≡ T
     most_next f x y T inv e = omega (arith, ap (most f) opened)
 
+    -- r is what the test answers at place k
+    module _ (t : ℕ → Bool) (T r : Bool) (e : r ≡ t (get_or l k 0)) (inv : some t (drop k l) ≡ T) where
+      pub some_next : r ≡ false → some t (drop (k + 1) l) ≡ T
+      some_next h = rw (opened, sym e ∙ h) at inv
+
+      pub some_here : r ≡ true → true ≡ T
+      some_here h = rw (opened, sym e ∙ h) at inv
+
   module _ (h : length l ≤ k) where
     pub most-over : (f : ℕ → ℕ) (x T : ℕ) → max x (most f (drop k l)) ≡ T → x ≡ T
     most-over f x T inv = omega (arith, ap (most f) (drop_of_length-le l {i = k} h))
+
+    pub some-over : (t : ℕ → Bool) (T : Bool) → some t (drop k l) ≡ T → false ≡ T
+    some-over t T inv = rw (drop_of_length-le l {i = k} h) at inv
+
+-- a walk over the n places from k on, which ends at the first that passes
+pub some_walked : (t : ℕ → Bool) (l : List ℕ) (n k : ℕ) → k + n ≡ length l → (T : Bool) → some t (drop k l) ≡ T →
+    some (λ j. t (get_or l j 0)) (up_to n k) ≡ T
+some_walked t l zero k h T inv = some-over l k (omega (arith, h)) t T inv
+some_walked t l (suc n) k h T inv =
+    by_test (t (get_or l k 0))
+    (λ p. rw p (some_here l k (omega (arith, h)) t T (t (get_or l k 0)) refl inv p))
+    (λ p.
+    let rest = some_next l k (omega (arith, h)) t T (t (get_or l k 0)) refl inv p in
+    rw p (rw add-one at (some_walked t l n (k + 1) (omega (arith, h)) T rest)))
 
 -- a list of n places, the first k of which hold the values of f
 pub record Filled (f : ℕ → ℕ) (n k : ℕ) (l : List ℕ) : Type 0 where

@@ -73,12 +73,12 @@ module _ (N m n top : ℕ) where
         (trial_told says).number
         ∙ ap (λ k. (trial_fault m n top k).number) (length-replicate {A = ℕ} 559 0)
 
-    lines_written : w.number ≡ 0 → text_in o' w.length ≡ as_text (trial_lines N m n top)
+    pub lines_written : w.number ≡ 0 → text_in o' w.length ≡ as_text (trial_lines N m n top)
     lines_written z =
         let (long, bytes) = (trial_told says).written z in
         ap₂ text_in bytes long ∙ sym (ap as_text (accepted_lines (sym number_is ∙ z)))
 
-    lines_refused : w.number ≢ 0 → text_in (over (line w.number w.place) o') 13 ≡ as_text (trial_lines N m n top)
+    pub lines_refused : w.number ≢ 0 → text_in (over (line w.number w.place) o') 13 ≡ as_text (trial_lines N m n top)
     lines_refused h =
         let kept = ((trial_told says).refused h).1 in
         ap₂ text_in

@@ -121,7 +121,7 @@ module _ (b : List ℕ) where
         ∙ ap (λ k. (write_fault m n l k).number) (length-replicate {A = ℕ} 559 0)
         ∙ ap (λ us. (write_fault m n us 559).number) el ∙ ap (λ (g : Fault). g.number) (write_cut m n vs 559)
 
-    text_written : w.number ≡ 0 → text_in o' w.length ≡ sheet_text_of b
+    pub text_written : w.number ≡ 0 → text_in o' w.length ≡ sheet_text_of b
     text_written z =
         let yes_to = (write_all_yes m n vs 559).0 (sym number_is ∙ z) in
         let few = count_small m n (yes_to 0).1 (yes_to 1).1 in
@@ -131,7 +131,7 @@ module _ (b : List ℕ) where
         ∙ ap (λ us. text_in (over (sheet_bytes m n us) zeros) (length (sheet_bytes m n us))) whole
         ∙ text_of (sheet_bytes m n vs) (accepted_text (sym number_is ∙ z))
 
-    text_refused : w.number ≢ 0 → text_in (over (line w.number w.place) o') 13 ≡ sheet_text_of b
+    pub text_refused : w.number ≢ 0 → text_in (over (line w.number w.place) o') 13 ≡ sheet_text_of b
     text_refused h =
         let kept = ((write_told says).refused h).1 in
         ap₂ text_in

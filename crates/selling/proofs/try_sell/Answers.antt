@@ -3,7 +3,7 @@ use Rattle.std.proofs.Common.{◌≡◌, ◌^◌, ap, refl, rules, ◌∙◌, ar
 use Rattle.sale.specs.declared.Sale.{Sale}
 use Rattle.sale.specs.Answers.{settled_sale}
 use Rattle.totals.specs.Totals.{limit_by}
-use Rattle.selling.proofs.Selling.{sale_refused, asked, limit_is, record_short, sale_settled}
+use Rattle.selling.proofs.Selling.{sale_refused, asked_sheet, limit_is, record_short, sale_settled}
 use Rattle.selling.proofs.try_sell.Goals as goal
 use Rattle.selling.proofs.try_sell.Goals.{After-limit_of-limit}
 
@@ -26,7 +26,7 @@ returns-then-log-limit-clause-says c =
 pub sell-requires : goal.sell-requires
 sell-requires c =
     let w = c.in_ok-sheet in (
-      asked c.args.sheet.now w.sheet w.ensures,
+      asked_sheet c.args.sheet.now w.sheet w.ensures,
       c.listed-list.ensures,
       limit_is c.args.sheet.now w.sheet w.ensures c.limit_of-limit.result
           (sum_is (goal.at.sell-requires c).After-limit_of-limit),
