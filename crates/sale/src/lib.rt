@@ -4,6 +4,7 @@
 #![tactic(auto)]
 
 ghost use Rattle.std.specs.Prelude.{◌≡◌};
+ghost use Rattle.sheet.specs.Questions.{fault};
 ghost use Rattle.sheet.specs.Refusals.{fault_of};
 ghost use Rattle.offers.specs.House.{HouseSales};
 ghost use Rattle.sale.specs.Answers.{refused_demand, refused_settled, refused_sale};
@@ -45,17 +46,50 @@ pub struct Sale {
     pub payments: [u32; 6],
 }
 
+// What a refusal's number and place make of each answer: all else is 0, or false.
+pub fn refused_demand(number: u8, place: u32) -> Demand
+    ensures { result ≡ refused_demand (fault number place) }
+{
+    Demand {
+        number,
+        place,
+        bundles: 0,
+        keen: false,
+    }
+}
+
+pub fn refused_settled(number: u8, place: u32) -> Settled
+    ensures { result ≡ refused_settled (fault number place) }
+{
+    Settled {
+        number,
+        place,
+        settled: false,
+    }
+}
+
+pub fn refused_sale(number: u8, place: u32) -> Sale
+    ensures { result ≡ refused_sale (fault number place) }
+{
+    Sale {
+        number,
+        place,
+        buyers: 0,
+        lots: 0,
+        rounds: 0,
+        prices: [0; 96],
+        owners: [0; 4],
+        discounts: [0; 6],
+        payments: [0; 6],
+    }
+}
+
 impl From<Refusal> for Demand {
     ghost from_gives = { λ refusal demand. demand ≡ refused_demand (fault_of refusal) };
 
     fn from(refusal: Refusal) -> Self {
         let fault = Fault::from(refusal);
-        Demand {
-            number: fault.number,
-            place: fault.place,
-            bundles: 0,
-            keen: false,
-        }
+        refused_demand(fault.number, fault.place)
     }
 }
 
@@ -64,11 +98,7 @@ impl From<Refusal> for Settled {
 
     fn from(refusal: Refusal) -> Self {
         let fault = Fault::from(refusal);
-        Settled {
-            number: fault.number,
-            place: fault.place,
-            settled: false,
-        }
+        refused_settled(fault.number, fault.place)
     }
 }
 
@@ -77,17 +107,7 @@ impl From<Refusal> for Sale {
 
     fn from(refusal: Refusal) -> Self {
         let fault = Fault::from(refusal);
-        Sale {
-            number: fault.number,
-            place: fault.place,
-            buyers: 0,
-            lots: 0,
-            rounds: 0,
-            prices: [0; 96],
-            owners: [0; 4],
-            discounts: [0; 6],
-            payments: [0; 6],
-        }
+        refused_sale(fault.number, fault.place)
     }
 }
 

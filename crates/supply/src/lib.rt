@@ -10,7 +10,7 @@ ghost use Rattle.owners.specs.Owners.{member};
 ghost use Rattle.owners.specs.Quick.{present_in, roster};
 ghost use Rattle.owners.specs.Singles.{AtMost};
 ghost use Rattle.supply.specs.Supply.{at, payoff_at, Gains, greatest, Revenues, Under, Joins, Supplied};
-ghost use Rattle.supply.specs.Supply.{Word, KeenBuyers, among, lowest_in, one_more};
+ghost use Rattle.supply.specs.Supply.{Word, KeenBuyers, among, Subsets, lowest_in, one_more};
 
 use numbers::{has, power};
 
@@ -56,6 +56,13 @@ pub fn is_member(set: usize, i: usize) -> bool
     ensures { result ≡ member set i }
 {
     has(set as u64, i - 1)
+}
+
+// That table, whole.
+pub fn subsets() -> [u64; 64]
+    ensures { Subsets result }
+{
+    SUBSETS
 }
 
 // The sets of some of a set's members.
