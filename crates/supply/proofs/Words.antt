@@ -23,7 +23,7 @@ use Rattle.std.proofs.lemmas.Nat.{and_le_l}
 use Rattle.theory.specs.Tests.{every, least}
 use Rattle.theory.specs.Coalitions.{inside, covers}
 use Rattle.theory.proofs.Tests.{by_test, same_test, fails, itself, Means, means_via, imp_means, and_means, or_means}
-use Rattle.theory.proofs.Tests.{every_means, not_means, eqb_means}
+use Rattle.theory.proofs.Tests.{every_means, not_means, eqb_means, Least}
 use Rattle.numbers.specs.Numbers.{bit}
 use Rattle.owners.specs.Owners.{member}
 use Rattle.owners.specs.Quick.{present_in, roster}
@@ -76,21 +76,24 @@ missing_bit n a b hb hn =
     ap (λ x. eqb x 1) (bit_at_not w64 b n hb hn) ∙ flipped (bit_at b n) (bit_at-lt b n) in
     bit_and_lem n a (bit_not w64 b) ∙ rw e
 
--- the least number of some that passes, and that none does
-pub least_is : (k s n : ℕ) (t : ℕ → Bool) → s ≤ n → n < s + k → t n ≡ true →
-    ((i : ℕ) → s ≤ i → i < n → t i ≡ false) → least k s t ≡ suc n
-least_is zero s n t lo hi p f = absurd (omega arith)
-least_is (suc k) s n t lo hi p f =
+-- what `least` answers where one passes, and where none does
+pub least_is : (k s : ℕ) (t : ℕ → Bool) (n : ℕ) → Least k s t n → least k s t ≡ suc n
+least_is zero s t n h = let in_none = h.among in absurd (omega arith)
+least_is (suc k) s t n h =
+    let in_range = h.among in
     elim (ℕ_discrete s n) [
-      | yes e ↦ rw (e, p)
-      | no d ↦ rw (f s (omega arith) (omega arith))
-          (least_is k (suc s) n t (omega arith) (omega arith) p (λ i l u. f i (omega arith) u))
+      | yes e ↦ rw (e, h.passes)
+      | no d ↦ rw (h.before s (omega arith) (omega arith))
+          (least_is k (suc s) t n (record {
+            among = omega arith;
+            passes = h.passes;
+            before = λ i l u. h.before i (omega arith) u;
+          }))
     ]
 
-pub least_zero : (k s : ℕ) (t : ℕ → Bool) → ((i : ℕ) → s ≤ i → i < s + k → t i ≡ false) → least k s t ≡ 0
+pub least_zero : (k s : ℕ) (t : ℕ → Bool) → ((i : ℕ) → Among k s i → t i ≡ false) → least k s t ≡ 0
 least_zero zero s t f = refl
-least_zero (suc k) s t f =
-    rw (f s (omega arith) (omega arith)) (least_zero k (suc s) t (λ i l u. f i (omega arith) (omega arith)))
+least_zero (suc k) s t f = rw (f s (omega arith)) (least_zero k (suc s) t (λ i r. f i (omega arith)))
 
 -- the lowest set of a word that another lacks, by the place of the lowest bit
 module _ (a b sets : ℕ) (ha : a < 2 ^ 64) (hb : b < 2 ^ 64) (hs : sets ≤ 64) where
@@ -109,14 +112,16 @@ module _ (a b sets : ℕ) (ha : a < 2 ^ 64) (hb : b < 2 ^ 64) (hs : sets ≤ 64)
       elim (ℕ_discrete rest 0) [
         | yes e ↦ let z : trailing_zeros w64 rest ≡ 64 = rw e (trailing_of_zero 64) in absurd (omega arith)
         | no d ↦ let l = lowest_bit (omega arith) in
-            least_is sets 0 (trailing_zeros w64 rest) missing (omega arith) (omega arith)
-            (sym (missing_bit _ a b hb l.0) ∙ ap (λ x. eqb x 1) l.1)
-            (λ i _ u. sym (missing_bit i a b hb (omega arith)) ∙ ap (λ x. eqb x 1) (l.2 i u))
+            least_is sets 0 missing (trailing_zeros w64 rest) (record {
+              among = omega arith;
+              passes = sym (missing_bit _ a b hb l.0) ∙ ap (λ x. eqb x 1) l.1;
+              before = λ i _ u. sym (missing_bit i a b hb (omega arith)) ∙ ap (λ x. eqb x 1) (l.2 i u);
+            })
       ]
 
   pub none_missing : sets ≤ trailing_zeros w64 rest → least sets 0 missing ≡ 0
   none_missing h =
-      least_zero sets 0 missing (λ i _ u. sym (missing_bit i a b hb (omega arith)) ∙
+      least_zero sets 0 missing (λ i r. sym (missing_bit i a b hb (omega arith)) ∙
       elim (ℕ_discrete rest 0) [
         | yes e ↦ rw e (ap (λ x. eqb x 1) (bit_at-zero i))
         | no d ↦ ap (λ x. eqb x 1) ((lowest_bit (omega arith)).2 i (omega arith))

@@ -58,7 +58,7 @@ pub fn is_member(set: usize, i: usize) -> bool
     has(set as u64, i - 1)
 }
 
-// That table, whole.
+// The table of subsets, whole.
 pub fn subsets() -> [u64; 64]
     ensures { Subsets result }
 {
@@ -113,7 +113,8 @@ fn keen_set(payoffs: &[u32; 6], buyers: usize) -> usize
     set
 }
 
-// The lowest set of one word that the other lacks, if there is one.
+// The lowest set of one word that the other lacks, if there is one. A word with no bit has 64 trailing zeros, and 64 is
+// no set's number.
 fn first_missing(word: u64, other: u64, sets: usize) -> Option<usize>
     requires { sets ≤ 64 }
     ensures { Is (least sets 0 (λ n. bit n word && not (bit n other))) (one_more result) 64 }
